@@ -1,4 +1,4 @@
--- Of keys that are measured one by one the nearest is kept.
+-- Among keys that are measured one by one, the nearest is kept.
 use Rattle.std.proofs.Common.{◌≡◌, ◌≤◌, ℕ, Bool, true, false, List, [], ◌∷◌, length, drop, Option, Some, None, MatchOption, refl, ap, sym, subst, ◌∙◌, arith, slice_index_or}
 use Rattle.std.specs.Prelude.{if◌then◌else◌, nat_eq, nat_lt}
 use Rattle.std.specs.Str.{chars}
@@ -25,7 +25,7 @@ kept_by : (name : List ℕ) (keys : List Key) (near other : Near) (b : Bool) →
 kept_by name keys near other true b d is = record { distance = is.distance; none_nearer = (grind (arith, nat_tests, b, d), is.none_nearer) }
 kept_by name keys near other false b d is = record { distance = d; none_nearer = (omega (arith, d), weaker name near.distance other.distance keys (grind (arith, nat_tests, b)) is.none_nearer) }
 
--- the nearer of the first key and the nearest of the others is the nearest
+-- the nearer one of the first key and the nearest of the others is the nearest
 pub kept : (name : List ℕ) (keys : List Key) (near : Near) (other : Option Near) → 1 ≤ length keys → near.key ≡ slice_index_or keys 0 Nick → near.distance ≡ edits name (key_text near.key)
     → MatchOption other (drop 1 keys ≡ []) (IsNearest name (drop 1 keys)) → IsNearest name keys (nearer near other)
 kept name [] near other l k d is = absurd (omega (arith, l))

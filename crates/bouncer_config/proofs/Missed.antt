@@ -1,4 +1,4 @@
--- Whatever is wrong with a table, something is told of the key with which it is.
+-- Whatever is wrong with a key of a table, something wrong with that key is reported.
 use Rattle.std.proofs.Common.{◌≡◌, ◌<◌, ◌&&◌, ℕ, ℤ, Bool, length, true, false, List, [], ◌∷◌, map, ◌⊎◌, inl, inr, Option, Some, None, refl, ap, sym, subst, ◌∙◌, arith}
 use Rattle.std.specs.Prelude.{if◌then◌else◌, IfSome, not, is_some, nat_lt, option_and_then, option_map}
 use Rattle.std.specs.List.{Contains, cons_option, filter_map}
@@ -27,12 +27,12 @@ use Rattle.bouncer_config.specs.declared.problem.Problem.TheVariants.{Missing, K
 abbrev IsFound : Option Problem → Type 0
 IsFound found = is_some found ≡ true
 
--- a key that is not there
+-- a needed key that is missing
 missing : (t : Members) (key : Key) → is_needed key ≡ true → value_at key t ≡ None → IsFound (wrong_at t key)
 missing t key n e =
     ap (λ v. is_some (wrong_with key (around_of t) v)) e ∙ ap (λ (b : Bool). is_some (if b then Some (Missing key) else None)) n
 
--- a key whose value is there
+-- a key that has a value
 valued : (t : Members) (key : Key) (d : Data) → value_at key t ≡ Some d → IsFound (wrong_value (kind_of key) key (around_of t) d) → IsFound (wrong_at t key)
 valued t key d e found = ap (λ v. is_some (wrong_with key (around_of t) v)) e ∙ found
 
@@ -57,7 +57,7 @@ table_kind : (key : Key) (s : Option Members) → is_some s ≡ false → IsFoun
 table_kind key None h = refl
 table_kind key (Some ms) h = absurd (false≢true (sym h))
 
--- a test that fails, and one behind which something is wrong either way
+-- a test that fails, and one after which something is wrong in both cases
 unless : (b : Bool) (found : Option Problem) (p : Problem) → b ≡ false → IsFound (if b then found else Some p)
 unless true found p h = absurd (false≢true (sym h))
 unless false found p h = refl
@@ -216,7 +216,7 @@ step : (name other : List ℕ) (rest : Members) → (other ≡ name) ⊎ HasName
 step name other rest (inl e) f = inl e
 step name other rest (inr h) f = inr (f h)
 
--- a name that no key has is told
+-- a name that no key has is reported
 name_told : (t : Members) (name : List ℕ) → HasName name t → is_known name ≡ false → Contains (map NoKey (unknown_names t)) (NoKey name)
 name_told no_members name h n = absurd h
 name_told (member other d rest) name h n = name_by name other (unknown_names rest) (is_known other) refl n (step name other rest h (λ g. name_told rest name g n))
@@ -255,7 +255,7 @@ kept_by : (found : Option Problem) (ps : List Problem) (p : Told) → Contains (
 kept_by None ps p h = h
 kept_by (Some q) ps p h = Contains-append_right (told_of q ∷ []) (map told_of ps) p h
 
--- what is wrong with a key is told
+-- what is wrong with a key is reported
 key_told : (t : Members) (keys : List Key) (key : Key) (q : Problem) → wrong_at t key ≡ Some q → Among key keys → Contains (map told_of (filter_map (wrong_at t) keys)) (told_of q)
 key_told t [] key q w h = absurd h
 key_told t (first ∷ keys) key q w (inl e) =
@@ -271,7 +271,7 @@ key_by : (t : Members) (key : Option Key) → IfSome key (λ k. IsFound (wrong_a
 key_by t None h = tt
 key_by t (Some key) h = some_by t key (wrong_at t key) refl h
 
--- all that is told is so, and nothing is missed
+-- all that is reported is true, and nothing is missed
 pub whole : (t : Members) → IsWhole t
 whole t =
     record {

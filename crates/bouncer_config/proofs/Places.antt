@@ -1,4 +1,4 @@
--- A name put at its place stands where it belongs; lists that are no setup's.
+-- A name inserted at its place is where it belongs; and lists that no setup has.
 use Rattle.std.proofs.Common.{◌≡◌, ◌<◌, ◌≤◌, ℕ, ◌+◌, suc, Bool, true, false, if◌then◌else◌, List, [], ◌∷◌, ◌++◌, length, Option, Some, None, MatchOption, refl, ap, sym, subst, ◌∙◌, add-one, arith}
 use Rattle.std.proofs.lemmas.Bool.{and_parts, false≢true}
 use Rattle.std.specs.Prelude.{is_none, option_and_then, option_map}
@@ -34,7 +34,7 @@ pub item_count-view : (vs : List Value) → item_count (items_view vs) ≡ lengt
 item_count-view [] = refl
 item_count-view (v ∷ vs) = ap suc (item_count-view vs)
 
--- the same, by a name that an attribute can say
+-- the same, under a name that an attribute can use
 pub count_of_items : (vs : List Value) → item_count (items_view vs) ≡ length vs
 count_of_items vs = item_count-view vs
 
@@ -54,15 +54,15 @@ pub passed_name : (bytes : List ℕ) (n : Option (List ℕ)) → MatchOption n (
 passed_name bytes None h = rw h refl
 passed_name bytes (Some n) h = rw h.1 (ap Some h.0)
 
--- as many addresses as no group has nodes
+-- a number of addresses that no group has as nodes
 pub no_group : (table : Members) (vs : List Value) → list_at Listen table ≡ Some (items_view vs) → ¬ IsGroupSize (length vs) → IsProblem table ListenCount
 no_group table vs e h = (items_view vs, e, rw (item_count-view vs) h)
 
--- more channels than there may be
+-- more channels than allowed
 pub too_many : (table : Members) (vs : List Value) → list_at Channels table ≡ Some (items_view vs) → 100 < length vs → IsProblem table ChannelCount
 too_many table vs e h = (items_view vs, e, rw (item_count-view vs) h)
 
--- no more than there may be
+-- no more channels than allowed
 pub no_more : (table : Members) (vs : List Value) → list_at Channels table ≡ Some (items_view vs) → length vs ≤ 100 → HasFewChannels table
 no_more table vs e h ds at =
     let same : items_view vs ≡ ds = cc (e, at) in
@@ -94,6 +94,6 @@ nodes_by : (t : Members) (ports : List ℕ) (found : Option Items) → list_at L
 nodes_by t ports None l e = absurd (cc e)
 nodes_by t ports (Some ds) l e = ap (option_map item_count) l ∙ ap Some (omega (arith, ports_count [] ports ds e))
 
--- there are as many addresses to listen at as ports are read
+-- the addresses to listen at are as many as the ports that are read
 pub listed_nodes : (t : Members) (upstream : ℕ) (ports : List ℕ) → Listens t upstream ports → option_map item_count (list_at Listen t) ≡ Some (length ports)
 listed_nodes t upstream ports is = nodes_by t ports (list_at Listen t) refl is.are.listen

@@ -1,4 +1,4 @@
--- Where no setup has the channels of a table, that is found, whatever its options are.
+-- If no setup has the channels of a table, that is found, whatever its options are.
 use Rattle.std.proofs.Common.{◌≡◌, ◌≤◌, ℕ, ℤ, pos, negsuc, Bool, true, false, ◌&&◌, List, [], Option, Some, None, refl, ap, sym, ◌∙◌, arith}
 use Rattle.std.specs.Prelude.{if◌then◌else◌, is_some, length, nat_le, nat_lt, option_and_then, option_map}
 use Rattle.std.proofs.lemmas.Bool.Decides.{nat_tests}
@@ -37,7 +37,7 @@ number_by limits (Some d) n l m e = read_by limits (as_integer d) n e
 sizes_by : (o : Options) → o.channel_size ≤ 500 → o.query_size ≤ 500 → 1 ≤ o.most_queries → o.most_queries ≤ 50 → size_fault o ≡ None
 sizes_by o c q least most = grind (arith, nat_tests, c, q, least, most)
 
--- the options that a table says are those of a setup
+-- the options that a table gives are those of a setup
 no_size_fault : {t : Members} (o : Options) → AreOptions t o → size_fault o ≡ None
 no_size_fault {t} o are =
     let queries = number_by (limits_of MaxQueryBuffers) (value_at MaxQueryBuffers t) o.most_queries (omega arith) (omega arith) are.most_queries in
@@ -47,7 +47,7 @@ no_size_fault {t} o are =
 abbrev sized : List (List ℕ) → Option SetupFault → Option SetupFault
 sized channels sizes = if nat_lt 100 (length channels) then Some TooManyChannels else first_fault (order_fault 0 channels) sizes
 
--- by default options the same is wrong
+-- with the default options the same is wrong
 same_fault : (channels : List (List ℕ)) (o : Options) (fault : SetupFault) → size_fault o ≡ None → fault_of channels o ≡ Some fault → fault_of channels default_options ≡ Some fault
 same_fault channels o fault none e = sym (ap (sized channels) none) ∙ e
 
@@ -57,7 +57,7 @@ nothing_by channels o fault none e f =
     let empty = ap (λ cs. fault_of cs o) e ∙ f in
     cc (sym none ∙ empty)
 
--- the names of channels that are read, in which something is wrong
+-- a fault is found in the names of channels that are read, if no setup has them
 pub names_found : (t : Members) (fault : SetupFault) (is : IsSetupFault t fault) → is_some (wrong_names (Some is.channels)) ≡ true
 names_found t fault is = ap (λ (f : Option SetupFault). is_some (option_map Setup f)) (same_fault is.channels is.options fault (no_size_fault is.options is.sized) is.refused)
 

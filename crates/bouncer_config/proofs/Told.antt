@@ -1,4 +1,4 @@
--- What is told of a table is so.
+-- What is reported of a table is true.
 use Rattle.std.proofs.Common.{◌≡◌, ◌<◌, ◌≤◌, ◌&&◌, ℕ, ℤ, Bool, true, false, length, List, [], ◌∷◌, ◌++◌, map, inl, inr, Option, Some, None, refl, ap, sym, subst, ◌∙◌, arith}
 use Rattle.std.specs.Prelude.{if◌then◌else◌, IfSome, not, is_some, nat_lt, option_and_then, option_map}
 use Rattle.std.specs.List.{cons_option, filter_map}
@@ -21,7 +21,7 @@ use Rattle.bouncer_config.specs.declared.key.Kind.TheVariants.{Text, Texts, Path
 use Rattle.bouncer_config.specs.declared.problem.Problem.{Problem}
 use Rattle.bouncer_config.specs.declared.problem.Problem.TheVariants.{Missing, Kind as KindOf, Refused, ListenCount, ListenTwice, StoreCount, StoreTwice, ChannelCount, Setup}
 
--- what is wrong with a key, if anything, is so
+-- the problem with a key, if there is one, is a real one
 abbrev IsSo : Members → Option Problem → Type 0
 IsSo t found = IfSome found (λ p. IsTold t (told_of p))
 
@@ -51,7 +51,7 @@ truth_by : (t : Members) (key : Key) (d : Data) (s : Option Bool) → as_bool d 
 truth_by t key d None s k e = (d, e, ap (λ kind. has_kind kind d) k ∙ ap (λ (o : Option Bool). is_some o) s)
 truth_by t key d (Some b) s k e = tt
 
--- so many nodes make no group
+-- no group has this many nodes
 no_group : (n : ℕ) → is_group n ≡ false → ¬ IsGroupSize n
 no_group n g h = grind (arith, nat_tests, g, h)
 
@@ -160,7 +160,7 @@ with_by : (t : Members) (key : Key) (found : Option Data) → value_at key t ≡
 with_by t key None e = missing_by t key (is_needed key) refl e
 with_by t key (Some d) e = value_by t key d (kind_of key) refl e
 
--- what is wrong with a key is so
+-- what is reported as wrong with a key is wrong
 key_so : (t : Members) (key : Key) → IsSo t (wrong_at t key)
 key_so t key = with_by t key (value_at key t) refl
 
@@ -184,7 +184,7 @@ both_so : (t : Members) (xs ys : List Told) → AreTold t xs → AreTold t ys �
 both_so t [] ys a b = b
 both_so t (x ∷ xs) ys a b = (a.0, both_so t xs ys a.1 b)
 
--- all that is told of a table is so
+-- all that is reported of a table is true
 pub all_so : (t : Members) → AreTold t (faults_of t)
 all_so t = both_so t (map NoKey (unknown_names t)) (map told_of (filter_map (wrong_at t) all_keys)) (names_so t t (λ name h. h)) (keys_so t all_keys)
 

@@ -1,4 +1,4 @@
--- All that is wrong with a table: what is told of it at once.
+-- All that is wrong with a table, which is reported at once.
 use Rattle.std.specs.Prelude.{◌≡◌, ◌-◌, ◌^◌, ℕ, ℤ, Bool, false, ◌||◌, ◌==◌, ◌⊎◌, nat_lt, if◌then◌else◌, List, [], ◌∷◌, ◌++◌, length, map, Option, Some, None, IfSome, option_map, option_and_then, string_bytes}
 use Rattle.std.specs.List.{AllByRecursion, Contains, filter_map}
 use Rattle.std.specs.List.Sorted.{IsNonDecreasingBy, IsPermutation}
@@ -39,32 +39,33 @@ abbrev pub wrong_truth : Key → Option Bool → Option Problem
 wrong_truth key None = Some (KindOf key)
 wrong_truth key (Some b) = None
 
--- so many nodes make a group
+-- a group may have this many nodes
 abbrev pub is_group : ℕ → Bool
 is_group n = n == 3 || (n == 5 || n == 7)
 
--- ports, and that of the upstream server before them where it is known
+-- ports, after that of the upstream server if it is known
 abbrev pub beside : Option ℕ → List ℕ → List ℕ
 beside None ports = ports
 beside (Some server) ports = server ∷ ports
 
--- what is wrong with ports to listen at, where each address is one
+-- what is wrong with ports to listen at, once each address is one
 abbrev pub wrong_ports : Option ℕ → Option (List ℕ) → Option Problem
 wrong_ports server None = Some (Refused Listen)
 wrong_ports server (Some ports) =
     if are_different (beside server ports) then None else Some ListenTwice
 
--- what is wrong with the addresses to listen at: their number, then one of them, then two alike
+-- what is wrong with the addresses to listen at: their number, then one of them, then two that are
+-- the same
 abbrev pub wrong_listen : Option ℕ → Items → Option Problem
 wrong_listen server ds =
     if is_group (item_count ds) then wrong_ports server (ports_after [] ds) else Some ListenCount
 
--- what is wrong with names of channels, where each is one
+-- what is wrong with names of channels, once each is one
 abbrev pub wrong_names : Option (List (List ℕ)) → Option Problem
 wrong_names None = Some (Refused Channels)
 wrong_names (Some names) = option_map Setup (fault_of names default_options)
 
--- what is wrong with the channels: their number, then one of them, then two alike
+-- what is wrong with the channels: their number, then one of them, then two that are the same
 abbrev pub wrong_channels : Items → Option Problem
 wrong_channels ds =
     if nat_lt channel_limit (item_count ds) then Some ChannelCount else wrong_names (names_after [] ds)
@@ -81,7 +82,7 @@ wrong_list Listen server (Some ds) = wrong_listen server ds
 wrong_list OnConnect server (Some ds) = wrong_lines (lines_after [] ds)
 wrong_list _ server (Some ds) = wrong_channels ds
 
--- what is wrong with folders, where each is a path: their number, then two alike
+-- what is wrong with folders, once each is a path: their number, then two that are the same
 abbrev pub wrong_folders : Option ℕ → Option (List (List ℕ)) → Option Problem
 wrong_folders nodes None = Some (Refused Store)
 wrong_folders nodes (Some paths) =
@@ -101,7 +102,7 @@ abbrev pub wrong_table : Key → Option Members → Option Problem
 wrong_table key None = Some (KindOf key)
 wrong_table key (Some ms) = wrong_pairs (pairs_after [] ms)
 
--- what is wrong with a value of a key that is to be of this kind
+-- what is wrong with a value of a key that must be of this kind
 abbrev pub wrong_value : Kind → Key → Around → Data → Option Problem
 wrong_value Text key around d = wrong_text key (as_str d)
 wrong_value Texts key around d = wrong_list key around.server (as_array d)
@@ -115,15 +116,15 @@ abbrev pub wrong_with : Key → Around → Option Data → Option Problem
 wrong_with key around None = if is_needed key then Some (Missing key) else None
 wrong_with key around (Some d) = wrong_value (kind_of key) key around d
 
--- the upstream server's port, where the table has one
+-- the upstream server's port, if the table has one
 abbrev pub server_of : Members → Option ℕ
 server_of table = option_and_then address_of (text_at Upstream table)
 
--- how many addresses to listen at the table has, where it has a list of them
+-- how many addresses to listen at the table has, if it has a list of them
 abbrev pub nodes_of : Members → Option ℕ
 nodes_of table = option_map item_count (list_at Listen table)
 
--- what a table says of the server and of the nodes, for other keys
+-- what a table says about the server and the nodes, for other keys
 abbrev pub around_of : Members → Around
 around_of table = record { server = server_of table; nodes = nodes_of table }
 
@@ -131,7 +132,7 @@ around_of table = record { server = server_of table; nodes = nodes_of table }
 abbrev pub wrong_at : Members → Key → Option Problem
 wrong_at table key = wrong_with key (around_of table) (value_at key table)
 
--- what is told: that no key has a name, or what is wrong with a key
+-- what is reported: that no key has a name, or what is wrong with a key
 pub data Told : Type 0 where
   NoKey : List ℕ → Told
   OfKey : Problem → Told
@@ -140,19 +141,19 @@ abbrev pub told_of : Problem → Told
 told_of (Unknown name) = NoKey (string_bytes name)
 told_of p = OfKey p
 
--- a name stands in a table
+-- a table has a name
 abbrev pub HasName : List ℕ → Members → Type 0
 HasName name no_members = ⊥
 HasName name (member other d rest) = (other ≡ name) ⊎ HasName name rest
 
--- the addresses to listen at are addresses, and two are alike, the upstream server's among them
--- where it is known
+-- the addresses to listen at are addresses, and two of them are the same, or one is that of the
+-- upstream server, if that is known
 pub record IsDouble (table : Members) : Type 0 where
   pub ports : List ℕ
   pub listen : option_and_then (ports_after []) (list_at Listen table) ≡ Some ports
   pub same : are_different (beside (server_of table) ports) ≡ false
 
--- the channels are names of channels, no more than there may be, and no setup has them
+-- the channels are names of channels, no more than allowed, and no setup has them
 pub record IsOrderFault (table : Members) (fault : SetupFault) : Type 0 where
   pub channels : List (List ℕ)
   pub few : HasFewChannels table
@@ -165,7 +166,7 @@ IsKeyProblem table ListenTwice = IsDouble table
 IsKeyProblem table (Setup fault) = IsOrderFault table fault
 IsKeyProblem table p = IsProblem table p
 
--- what is told is so
+-- what is reported is true
 abbrev pub IsTold : Members → Told → Type 0
 IsTold table (NoKey name) = HasName name table × (is_known name ≡ false)
 IsTold table (OfKey p) = IsKeyProblem table p
@@ -178,16 +179,16 @@ abbrev pub faults_of : Members → List Told
 faults_of table =
     map NoKey (unknown_names table) ++ map told_of (filter_map (wrong_at table) all_keys)
 
--- what faults tell
+-- what faults report
 abbrev pub told : List KeyFault → List Told
 told faults = map (λ f. told_of f.problem) faults
 
--- by its line, and behind all lines where none is known
+-- by its line; after all lines if none is known
 abbrev pub place_of_line : Option ℕ → ℕ
 place_of_line None = 2 ^ 64 - 1
 place_of_line (Some line) = line
 
--- where a fault is told among others
+-- the position of a fault among others
 abbrev pub place_of : KeyFault → ℕ
 place_of fault = place_of_line fault.line
 
@@ -204,12 +205,12 @@ key_of ChannelCount = Some Channels
 key_of (Setup fault) = Some Channels
 key_of p = None
 
--- something that is wrong with a key is told
+-- something that is wrong with a key is reported
 abbrev pub Tells : Members → Key → Type 0
 Tells table key =
     (p : Problem) × (wrong_at table key ≡ Some p) × Contains (faults_of table) (told_of p)
 
--- all that is told of a table is so, and nothing that is wrong with it is missed
+-- all that is reported of a table is true, and nothing that is wrong with it is missed
 pub record IsWhole (table : Members) : Type 0 where
   pub so : AreTold table (faults_of table)
   pub names : (name : List ℕ) → HasName name table → is_known name ≡ false

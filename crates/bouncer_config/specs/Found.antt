@@ -15,15 +15,16 @@ use Rattle.bouncer_config.specs.declared.input_end.InputEnd.TheVariants.{Stops}
 use Rattle.bouncer_config.specs.declared.log_level.LogLevel.{LogLevel}
 use Rattle.bouncer_config.specs.declared.log_level.LogLevel.TheVariants.{Info}
 
--- the value of a key, where it stands in the table
+-- the value of a key, if the table has one
 abbrev pub value_at : Key → Members → Option Data
 value_at key table = get_member (key_text key) table
 
--- the text of a key, where its value is one
+-- the text of a key, if its value is one
 abbrev pub text_at : Key → Members → Option (List ℕ)
 text_at key table = option_and_then as_str (value_at key table)
 
--- a text that may be left out: one that is not given is none, and another value is refused
+-- a text that may be left out: without a value there is none, and a value of another kind is
+-- refused
 abbrev pub text_in : Option Data → Option (Option (List ℕ))
 text_in None = Some None
 text_in (Some d) = option_map Some (as_str d)
@@ -33,7 +34,7 @@ abbrev pub within : Limits → ℤ → Option ℕ
 within limits (pos n) = if nat_le limits.least n && nat_le n limits.most then Some n else None
 within limits (negsuc n) = None
 
--- a natural number, or what it is by default
+-- a natural number, or the default
 abbrev pub number_in : Limits → Option Data → Option ℕ
 number_in limits None = Some limits.usual
 number_in limits (Some d) = option_and_then (within limits) (as_integer d)
@@ -43,7 +44,7 @@ abbrev pub truth_in : Option Data → Option Bool
 truth_in None = Some true
 truth_in (Some d) = as_bool d
 
--- minutes from -1,439 to 1,439, and 1,439 more
+-- minutes from -1,439 to 1,439, with 1,439 added
 abbrev pub above_least : ℤ → Option ℕ
 above_least (pos n) = if nat_le n 1439 then Some (n + 1439) else None
 above_least (negsuc n) = if nat_lt n 1439 then Some (1438 - n) else None
@@ -68,12 +69,12 @@ abbrev pub item_count : Items → ℕ
 item_count no_items = 0
 item_count (item d ds) = suc (item_count ds)
 
--- the ports of addresses behind those that were read
+-- the ports of addresses after those that were read
 abbrev pub ports_after : List ℕ → Items → Option (List ℕ)
 ports_after done no_items = Some done
 ports_after done (item d ds) = option_and_then (λ p. ports_after (done ++ p ∷ []) ds) (option_and_then address_of (as_str d))
 
--- no port stands twice
+-- no port occurs twice
 abbrev pub are_different : List ℕ → Bool
 are_different [] = true
 are_different (p ∷ ps) = not (list_any (λ q. q == p) ps) && are_different ps
@@ -82,7 +83,7 @@ are_different (p ∷ ps) = not (list_any (λ q. q == p) ps) && are_different ps
 abbrev pub channel_of : List ℕ → Option (List ℕ)
 channel_of text = if is_channel text then Some text else None
 
--- the names of channels, each put where it belongs among those that were read, which rise
+-- the names of channels, each inserted where it belongs among those that were read, which rise
 abbrev pub names_after : List (List ℕ) → Items → Option (List (List ℕ))
 names_after done no_items = Some done
 names_after done (item d ds) = option_and_then (λ c. names_after (put_in c done) ds) (option_and_then channel_of (as_str d))
@@ -96,7 +97,7 @@ channels_in (Some d) = option_and_then (names_after []) (as_array d)
 abbrev pub line_of : List ℕ → Option (List ℕ)
 line_of text = if is_first_line text then Some text else None
 
--- such lines, behind those that were read
+-- such lines, after those that were read
 abbrev pub lines_after : List (List ℕ) → Items → Option (List (List ℕ))
 lines_after done no_items = Some done
 lines_after done (item d ds) = option_and_then (λ line. lines_after (done ++ line ∷ []) ds) (option_and_then line_of (as_str d))
@@ -115,7 +116,7 @@ abbrev pub pair_in : List ℕ → Data → Option (List ℕ × List ℕ)
 pair_in channel d =
     if is_channel channel then option_map (λ key. (channel, key)) (option_and_then key_of_channel (as_str d)) else None
 
--- channels and their keys, behind those that were read
+-- channels and their keys, after those that were read
 abbrev pub pairs_after : List (List ℕ × List ℕ) → Members → Option (List (List ℕ × List ℕ))
 pairs_after done no_members = Some done
 pairs_after done (member channel d rest) = option_and_then (λ pair. pairs_after (done ++ pair ∷ []) rest) (pair_in channel d)
@@ -129,7 +130,7 @@ pairs_in (Some d) = option_and_then (pairs_after []) (as_table d)
 abbrev pub path_of : List ℕ → Option (List ℕ)
 path_of text = if is_path text then Some text else None
 
--- paths, behind those that were read
+-- paths, after those that were read
 abbrev pub paths_after : List (List ℕ) → Items → Option (List (List ℕ))
 paths_after done no_items = Some done
 paths_after done (item d ds) = option_and_then (λ path. paths_after (done ++ path ∷ []) ds) (option_and_then path_of (as_str d))
@@ -147,17 +148,17 @@ paths_in d = one_or_list (as_str d) (as_array d)
 abbrev pub paths_at : Key → Members → Option (List (List ℕ))
 paths_at key table = option_and_then paths_in (value_at key table)
 
--- no path stands twice
+-- no path occurs twice
 abbrev pub are_apart : List (List ℕ) → Bool
 are_apart [] = true
 are_apart (p ∷ ps) = not (list_any (λ q. same_bytes q p) ps) && are_apart ps
 
--- one folder for all nodes, or one for each, where it is known how many there are
+-- one folder for all nodes, or one for each, if their number is known
 abbrev pub serves : Option ℕ → ℕ → Bool
 serves None folders = true
 serves (Some nodes) folders = folders == 1 || folders == nodes
 
--- the options of a setup are those that a table says
+-- the options of a setup are those that a table gives
 pub record AreOptions (table : Members) (o : Options) : Type 0 where
   pub channel_size : number_in (limits_of ChanBufferSize) (value_at ChanBufferSize table) ≡ Some o.channel_size
   pub query_size : number_in (limits_of QueryBufferSize) (value_at QueryBufferSize table) ≡ Some o.query_size

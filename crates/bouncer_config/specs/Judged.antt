@@ -1,4 +1,4 @@
--- What a configuration says that a table says.
+-- A configuration that a table describes.
 use Rattle.std.specs.Prelude.{◌≡◌, IsTrue, Some, None, IfSome, length, map, option_map, string_bytes, true}
 use Rattle.toml.specs.Data.{Members}
 use Rattle.buffer_commands.specs.Settings.{Settings, settings_of}
@@ -10,7 +10,7 @@ use Rattle.bouncer_config.specs.Wrong.{Listens, first_unknown}
 use Rattle.bouncer_config.specs.declared.key.Key.TheVariants.{Nick, Password, UpstreamPassword, Store, Record, Channels, BeatMs, TimeoutMs, FloodBurst, FloodMs, Log, Input, RenewAt, ChannelKeys, OnConnect}
 use Rattle.bouncer_config.specs.declared.config.Config.{Config}
 
--- a setup is that of the table's nick, channels and options
+-- a setup has the nick, the channels and the options of the table
 pub record IsSetup (table : Members) (setup : Settings) : Type 0 where
   pub options : Options
   pub nick : text_at Nick table ≡ Some setup.nick
@@ -18,7 +18,8 @@ pub record IsSetup (table : Members) (setup : Settings) : Type 0 where
   pub sized : AreOptions table options
   pub is : setup ≡ settings_of setup.nick setup.channels options
 
--- a configuration is what the table says: each field is the value of its key, or what it is by default, and no name stands there that no key has
+-- a configuration is what the table says: each field is the value of its key, or the default, and the table has no name
+-- that no key has
 pub record IsConfig (table : Members) (c : Config) : Type 0 where
   pub known : first_unknown table ≡ None
   pub setup : IsSetup table c.setup

@@ -1,4 +1,4 @@
--- The keys of a configuration: the words under which they stand, and what their values are.
+-- The keys of a configuration: their words, and the kinds of their values.
 use Rattle.std.specs.Prelude.{ℕ, List, codes}
 use Rattle.buffer_commands.specs.Settings.{query_limit, size_limit}
 use Rattle.raft_log.specs.Logs.{entry_limit}
@@ -8,7 +8,7 @@ use Rattle.bouncer_config.specs.declared.key.Kind.{Kind}
 use Rattle.bouncer_config.specs.declared.key.Kind.TheVariants.{Text, Texts, Paths, Pairs, Number, Truth}
 use Rattle.bouncer_config.specs.declared.key.Limits.{Limits}
 
--- the word under which a key stands
+-- the word of a key
 abbrev pub key_text : Key → List ℕ
 key_text Nick = codes "nick"
 key_text Password = codes "password"
@@ -35,7 +35,7 @@ key_text RenewAt = codes "renew_at"
 key_text ChannelKeys = codes "channel_keys"
 key_text OnConnect = codes "on_connect"
 
--- what the value of a key is to be
+-- the kind of a key's value
 abbrev pub kind_of : Key → Kind
 kind_of Nick = Text
 kind_of Password = Text
@@ -54,7 +54,7 @@ kind_of AutoClearQueryBuffer = Truth
 kind_of MultiClients = Truth
 kind_of _ = Number
 
--- the least and the most of a number, and what it is where it is not given
+-- the least and the greatest value of a number, and its default
 abbrev pub between : ℕ → ℕ → ℕ → Limits
 between least most usual = record { least = least; most = most; usual = usual }
 

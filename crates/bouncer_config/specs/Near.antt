@@ -8,11 +8,11 @@ use Rattle.bouncer_config.specs.Wrong.{all_keys}
 use Rattle.bouncer_config.specs.declared.key.Key.{Key}
 use Rattle.bouncer_config.specs.declared.nearest.Near.{Near}
 
--- how many characters have to come, go or change between two texts
+-- how many characters must be added, removed or changed between two texts
 unfoldable pub edits : List ℕ → List ℕ → ℕ
 edits from to = levenshtein_row nat_eq (chars from) (chars to) (length (chars to))
 
--- no key of these is nearer to a name
+-- no key among these is nearer to a name
 abbrev pub NoneNearer : List ℕ → ℕ → List Key → Type 0
 NoneNearer name distance keys = AllByRecursion (λ key. distance ≤ edits name (key_text key)) keys
 
@@ -21,12 +21,12 @@ pub record IsNearest (name : List ℕ) (keys : List Key) (near : Near) : Type 0 
   pub distance : near.distance ≡ edits name (key_text near.key)
   pub none_nearer : NoneNearer name near.distance keys
 
--- another key, where it is nearer than this one
+-- another key, if it is nearer than this one
 abbrev pub nearer : Near → Option Near → Near
 nearer near None = near
 nearer near (Some other) = if nat_lt other.distance near.distance then other else near
 
--- a name is two edits at most from a key, fewer than half of its bytes, and as near to no other
+-- a name is at most two edits from a key, fewer than half of its bytes, and no other key is nearer
 pub record IsNear (name : List ℕ) (key : Key) : Type 0 where
   pub near : edits name (key_text key) ≤ 2
   pub like : edits name (key_text key) * 2 < length name

@@ -1,4 +1,4 @@
--- What the text of a configuration says.
+-- What the text of a configuration means.
 use Rattle.std.specs.Prelude.{◌≡◌, ℕ, List, Some, None, IsUtf8}
 use Rattle.toml.specs.Data.{Members}
 use Rattle.toml.specs.Parse.{parse_document}
@@ -10,7 +10,7 @@ use Rattle.bouncer_config.specs.declared.key_fault.KeyFault.{KeyFault}
 use Rattle.bouncer_config.specs.declared.problem.Problem.{Problem}
 use Rattle.bouncer_config.specs.declared.problem.Problem.TheVariants.{Memory, NotToml}
 
--- a text is a TOML document in UTF-8, and its table says this configuration
+-- a text is a TOML document in UTF-8, and its table gives this configuration
 pub record Says (text : List ℕ) (c : Config) : Type 0 where
   pub table : Members
   pub utf8 : IsUtf8 text

@@ -31,7 +31,7 @@ abbrev pub first_unknown : Members → Option (List ℕ)
 first_unknown no_members = None
 first_unknown (member name d rest) = if is_known name then first_unknown rest else Some name
 
--- the keys that no configuration goes without
+-- the keys that every configuration needs
 abbrev pub is_needed : Key → Bool
 is_needed Nick = true
 is_needed Password = true
@@ -49,7 +49,7 @@ has_kind Pairs d = is_some (as_table d)
 has_kind Number d = is_some (as_integer d)
 has_kind Truth d = is_some (as_bool d)
 
--- a value is there, and it fails a test
+-- there is a value, and it fails a test
 abbrev pub fails : {T : Type 0} → (T → Bool) → Option T → Bool
 fails test None = false
 fails test (Some x) = not (test x)
@@ -81,7 +81,7 @@ list_rule _ ds = true
 abbrev pub pairs_rule : Members → Bool
 pairs_rule ms = is_some (pairs_after [] ms)
 
--- a value of a key's kind is not one that the key may have
+-- a value of a key's kind that the key may not have
 abbrev pub breaks : Kind → Key → Data → Bool
 breaks Text key d = fails (text_rule key) (as_str d)
 breaks Texts key d = fails (list_rule key) (as_array d)
@@ -94,7 +94,7 @@ breaks Truth key d = false
 abbrev pub list_at : Key → Members → Option Items
 list_at key table = option_and_then as_array (value_at key table)
 
--- the upstream server's port and those to listen at, where they stand there
+-- the upstream server's port and those to listen at, if the table has them
 pub record ArePorts (table : Members) (upstream : ℕ) (ports : List ℕ) : Type 0 where
   pub server : option_and_then address_of (text_at Upstream table) ≡ Some upstream
   pub listen : option_and_then (ports_after []) (list_at Listen table) ≡ Some ports
@@ -103,7 +103,7 @@ pub record ArePorts (table : Members) (upstream : ℕ) (ports : List ℕ) : Type
 abbrev pub HasFewChannels : Members → Type 0
 HasFewChannels table = (ds : Items) → list_at Channels table ≡ Some ds → item_count ds ≤ channel_limit
 
--- The channels and options that a table says are those of no setup, though there are not too many channels.
+-- The channels and options that a table gives are those of no setup, though there are not too many channels.
 pub record IsSetupFault (table : Members) (fault : SetupFault) : Type 0 where
   pub channels : List (List ℕ)
   pub options : Options
@@ -112,7 +112,7 @@ pub record IsSetupFault (table : Members) (fault : SetupFault) : Type 0 where
   pub sized : AreOptions table options
   pub refused : fault_of channels options ≡ Some fault
 
--- at these ports nodes listen: as many as a group has, all different, and none the upstream server's
+-- nodes can listen at these ports: as many as a group has, all different, and none the upstream server's
 pub record Listens (table : Members) (upstream : ℕ) (ports : List ℕ) : Type 0 where
   pub are : ArePorts table upstream ports
   pub group : IsGroupSize (length ports)
@@ -125,7 +125,7 @@ pub record IsTwice (table : Members) : Type 0 where
   pub are : ArePorts table upstream ports
   pub same : are_different (upstream ∷ ports) ≡ false
 
--- there are more folders than one, and not as many as addresses to listen at
+-- there is more than one folder, and not as many as addresses to listen at
 pub record HasOtherCount (table : Members) : Type 0 where
   pub paths : List (List ℕ)
   pub nodes : Items

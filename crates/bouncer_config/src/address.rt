@@ -29,7 +29,7 @@ impl Model for Address {
 }
 
 impl Address {
-    /// The address of this text, where it is one: the port in decimal digits with no 0 in front.
+    /// The address of this text, if it is one: the port in decimal digits without a leading 0.
     pub fn from_text(text: &[u8]) -> Option<Address>
         ensures { result ≡ address_of text.now }
     {
@@ -58,7 +58,7 @@ impl fmt::Display for Address {
     }
 }
 
-/// What stands behind a front, where the bytes begin with it.
+/// What follows a front, if the bytes begin with it.
 fn after<'a>(front: &[u8], bytes: &'a [u8]) -> Option<&'a [u8]>
     ensures { option_map (λ rest. rest.now) result ≡ behind front.now bytes.now }
 {
@@ -71,7 +71,7 @@ fn after<'a>(front: &[u8], bytes: &'a [u8]) -> Option<&'a [u8]>
     }
 }
 
-/// The port that digits write behind those of a port, where it is at most 65535.
+/// The port that results from further digits after those of a port, if it is at most 65535.
 fn port_after(port: u16, digits: &[u8]) -> Option<u16>
     ensures { result ≡ port_after port digits.now }
 {

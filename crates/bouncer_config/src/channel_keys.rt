@@ -20,7 +20,7 @@ pub struct ChannelKey {
     pub key: Name,
 }
 
-/// The key of these bytes, where they are one.
+/// The key of these bytes, if they are one.
 #[tactic(auto, using(crate::proofs::Places::passed_name))]
 fn key_of_channel(alloc: Global, bytes: &[u8]) -> Result<Option<Name>, AllocError>
     ensures { IfOk result (λ key. key ≡ key_of_channel bytes.now) }
@@ -28,7 +28,7 @@ fn key_of_channel(alloc: Global, bytes: &[u8]) -> Result<Option<Name>, AllocErro
     Ok(Name::from_bytes(Vec::from_slice(alloc, bytes)?))
 }
 
-/// A channel of this name and the key that a value says, where they are that.
+/// A channel of this name and the key in a value, if they are valid.
 fn pair_at(alloc: Global, channel: &str, value: &Value) -> Result<Option<ChannelKey>, AllocError>
     ensures { IfOk result (λ pair.
         option_map (λ k. (k.channel, k.key)) pair ≡ pair_in channel.now (view value.now)) }
@@ -45,7 +45,7 @@ fn pair_at(alloc: Global, channel: &str, value: &Value) -> Result<Option<Channel
     }
 }
 
-/// The channels of a table with their keys, where each is one.
+/// The channels of a table with their keys, if each is valid.
 pub(crate) fn pairs_of(alloc: Global, table: &Table) -> Result<Option<Vec<ChannelKey>>, AllocError>
     ensures { IfOk result (λ pairs. option_map (λ all. map (λ k. (k.channel, k.key)) all.items) pairs
         ≡ pairs_after [] (table_view table.now)) }

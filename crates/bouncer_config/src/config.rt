@@ -26,7 +26,7 @@ use raft_log::NodeId;
 use std::alloc::Global;
 use toml::Table;
 
-/// What a bouncer runs with.
+/// The configuration with which a bouncer runs.
 #[derive(Drop)]
 pub struct Config {
     /// The nick, the channels at the start, the sizes of buffers and their options.
@@ -35,39 +35,38 @@ pub struct Config {
     pub password: Password,
     /// Where the server is.
     pub upstream: Address,
-    /// What the server is sent in PASS, if anything.
+    /// What is sent to the server in PASS, if anything.
     pub upstream_password: Option<Password>,
-    /// Where each node listens for clients: three, five or seven addresses, all different, none of
-    /// them the server's.
+    /// Where each node listens for clients: three, five or seven addresses, all different, none of them the server's.
     pub listen: Vec<Address>,
     /// The paths of the folders of the nodes' journals: one for all nodes, or one for each, node 1's first.
     pub store: Vec<String>,
-    /// The path of the file that the record of a run is written to, if one is.
+    /// The path of the file to which the record of a run is written, if there is one.
     pub record: Option<String>,
-    /// How often a leader is heard, in milliseconds, 10 to 10,000.
+    /// How often a leader sends a beat, in milliseconds, 10 to 10,000.
     pub beat_ms: u16,
     /// After how long without a leader an election begins, in milliseconds, 50 to 60,000.
     pub timeout_ms: u16,
     /// How many lines may go to the server at once, 1 to 100.
     pub flood_burst: u16,
-    /// How long each further line waits, in milliseconds, 0 to 60,000, 0 being not at all.
+    /// How long each further line waits, in milliseconds, 0 to 60,000; 0 means not at all.
     pub flood_ms: u16,
-    /// How much is told on standard error.
+    /// How much is logged on standard error.
     pub log: LogLevel,
     /// What the end of standard input does.
     pub input_end: InputEnd,
-    /// A start over a log of more entries than this begins it anew; 0 is never. At most 1,000,000.
+    /// A start with a log of more entries than this renews it; 0 means never. At most 1,000,000.
     pub renew_at: u32,
-    /// The keys of channels, each by a channel's name; where it stands twice, the last counts.
+    /// The keys of channels, each with the channel's name; if a name occurs twice, the last key counts.
     pub channel_keys: Vec<ChannelKey>,
-    /// What each session sends first, without the ends of the lines.
+    /// What each session sends first, without the line ends.
     pub on_connect: Vec<Text>,
 }
 
 impl Config {
-    /// The configuration that a table says. The first problem is told: a name that no key has, by
-    /// their order, and else what is wrong with the keys, in the order of the fields here, a
-    /// setup's nick, options and channels in turn.
+    /// The configuration that a table gives. The first problem is returned: the first name that no key has, and else
+    /// what is wrong with the keys, in the order of the fields here, for a setup the nick, the options and the channels
+    /// in turn.
     #[tactic(auto, using(crate::proofs::Places::listed_nodes))]
     pub fn from_table(alloc: Global, table: &Table) -> Result<Config, Problem>
         ensures ok { IfOk result (IsConfig (table_view table.now)) }
@@ -101,7 +100,7 @@ impl Config {
 }
 
 impl Config {
-    /// The path of the folder in which the journal of a node lies.
+    /// The path of the folder with the journal of a node.
     pub fn folder(&self, node: NodeId) -> &str
         ensures { result.now ≡ folder_of (map string_bytes self.now.store.items) node }
     {
@@ -109,7 +108,7 @@ impl Config {
     }
 }
 
-/// What the clients and the server are reached by.
+/// How the clients and the server are reached.
 #[derive(Drop)]
 struct Links {
     password: Password,
@@ -118,7 +117,7 @@ struct Links {
     listen: Vec<Address>,
 }
 
-/// What the clients and the server are reached by.
+/// Reads how the clients and the server are reached.
 fn read_links(alloc: Global, table: &Table) -> Result<Links, Problem>
     ensures password { IfOk result (λ l.
         text_at Key.Password (table_view table.now) ≡ Some l.password) }
@@ -140,7 +139,7 @@ fn read_links(alloc: Global, table: &Table) -> Result<Links, Problem>
     })
 }
 
-/// How often a bouncer does what it does, and how much it tells.
+/// The intervals and rates of a bouncer, and how much it logs.
 #[derive(Clone, Copy)]
 struct Pace {
     beat_ms: u16,
@@ -150,7 +149,7 @@ struct Pace {
     log: LogLevel,
 }
 
-/// How often a bouncer does what it does, and how much it tells.
+/// Reads the intervals and rates of a bouncer, and how much it logs.
 fn read_pace(table: &Table) -> Result<Pace, Problem>
     ensures beat { IfOk result (λ p. number_in (limits_of Key.BeatMs)
         (value_at Key.BeatMs (table_view table.now)) ≡ Some p.beat_ms) }
@@ -201,7 +200,7 @@ fn options(table: &Table) -> Result<Options, Problem>
     })
 }
 
-/// What the buffers are set up with.
+/// The setup of the buffers.
 fn setup(alloc: Global, table: &Table) -> Result<Setup, Problem>
     ensures ok { IfOk result (IsSetup (table_view table.now)) }
     ensures err { IfErr result (IsProblem (table_view table.now)) }
@@ -239,7 +238,7 @@ fn upstream(table: &Table) -> Result<Address, Problem>
     }
 }
 
-/// What the server is sent in PASS, if anything.
+/// What is sent to the server in PASS, if anything.
 fn upstream_password(alloc: Global, table: &Table) -> Result<Option<Password>, Problem>
     ensures ok { IfOk result (λ p.
         text_in (value_at Key.UpstreamPassword (table_view table.now)) ≡ Some p) }

@@ -1,4 +1,4 @@
-//! What more is said of a problem: which element it is, and what to do.
+//! More about a problem: which element it is, and what to do.
 use crate::key::Key;
 use crate::lines::refused_element;
 use crate::nearest::nearest_key;
@@ -10,24 +10,24 @@ use std::ops::Range;
 use toml::Table;
 use toml::de::Error;
 
-/// What more is said of a problem.
+/// More about a problem.
 #[derive(Debug, Drop)]
 pub enum Detail {
-    /// Of a text that is no TOML, what was expected there.
+    /// For a text that is no TOML: what was expected there.
     Expected(String),
-    /// Of a text that is no TOML, that a text stands there without quotes.
+    /// For a text that is no TOML: that there is a text without quotes.
     Unquoted,
-    /// Of a list, the element that may not stand in it.
+    /// For a list: the element that is not allowed in it.
     Element(String),
-    /// Of a name that no key has, the key to which it is near.
+    /// For a name that no key has: the key to which it is near.
     Near(Key),
 }
 
-/// What more is said of a problem of a table, where there is memory to say it.
+/// More about a problem of a table, if there is memory for it.
 pub(crate) fn detail_of(alloc: Global, table: &Table, problem: &Problem) -> Option<Detail> {
     match problem {
         Problem::Unknown(name) => Some(Detail::Near(nearest_key(alloc, name.as_str())?)),
-        // a line that a session sends first may have a password in it
+        // a line that a session sends first may contain a password
         Problem::Refused(Key::OnConnect) => None,
         Problem::Refused(_) => {
             let element = refused_element(table, problem)?;
@@ -37,7 +37,7 @@ pub(crate) fn detail_of(alloc: Global, table: &Table, problem: &Problem) -> Opti
     }
 }
 
-/// What more is said of a text that is no TOML, where there is memory to say it.
+/// More about a text that is no TOML, if there is memory for it.
 pub(crate) fn detail_of_error(
     alloc: Global,
     text: &[u8],
@@ -50,7 +50,7 @@ pub(crate) fn detail_of_error(
     Some(Detail::Expected(String::from_str(alloc, error.message()).ok()?))
 }
 
-/// Whether what stands at a place is a text without quotes: neither nothing nor a number.
+/// Whether there is a text without quotes at a place: neither nothing nor a number.
 fn is_unquoted(text: &[u8], span: &Range<usize>) -> bool {
     let start = span.start.min(text.len());
     let end = span.end.max(start.saturating_add(1)).min(text.len());
@@ -60,7 +60,7 @@ fn is_unquoted(text: &[u8], span: &Range<usize>) -> bool {
     text[start..end].iter().any(|byte| is_of_a_text(*byte))
 }
 
-/// Whether a byte without quotes is neither of a number nor what ends a value.
+/// Whether a byte outside quotes neither belongs to a number nor ends a value.
 fn is_of_a_text(byte: u8) -> bool {
     !byte.is_ascii_digit() && !byte.is_ascii_whitespace() && !b"+-_.,#=[]{}".contains(&byte)
 }
@@ -86,7 +86,7 @@ pub(crate) fn write_element<W: fmt::Write>(
     }
 }
 
-/// Whether these bytes, which are no channel's name, are one behind a `#`.
+/// Whether these bytes, which are no channel's name, become one with a `#` before them.
 fn lacks_a_mark(bytes: &[u8]) -> bool {
     is_a_name(bytes) && bytes.len() < NAME_LIMIT
 }

@@ -1,4 +1,4 @@
-//! What a configuration says of the disk.
+//! The paths of a configuration.
 ghost use Rattle.std.specs.Prelude.{◌≡◌, ◌==◌, not, Some, IfOk, IfErr, IfSome, IsTrue, option_map, string_bytes};
 ghost use Rattle.std.specs.List.{list_all};
 ghost use Rattle.toml.specs.View.{table_view};
@@ -26,7 +26,7 @@ pub(crate) fn is_a_path(text: &[u8]) -> bool
     1 <= text.len() && is_without_nul(text)
 }
 
-/// The path of the record, if one is written.
+/// The path of the record, if there is one.
 pub(crate) fn record(alloc: Global, table: &Table) -> Result<Option<String>, Problem>
     ensures ok { IfOk result (λ s. text_in (value_at Key.Record (table_view table.now))
         ≡ Some (option_map string_bytes s)) }

@@ -13,7 +13,7 @@ use irc_line::{Text, is_a_text};
 use std::alloc::{AllocError, Global};
 use toml::{Table, Value};
 
-/// Whether a letter stands first.
+/// Whether the first byte is a letter.
 fn begins_with_letter(bytes: &[u8]) -> bool
     ensures { result ≡ begins_with_letter bytes.now }
 {
@@ -38,7 +38,7 @@ pub(crate) fn is_a_first_line(bytes: &[u8]) -> bool
     begins_with_letter(bytes) && is_a_text(bytes)
 }
 
-/// The line of a value, where it is one.
+/// The line of a value, if it is one.
 fn line_at(alloc: Global, value: &Value) -> Result<Option<Text>, AllocError>
     ensures { IfOk result (λ line. line ≡ option_and_then line_of (as_str (view value.now))) }
 {
@@ -48,7 +48,7 @@ fn line_at(alloc: Global, value: &Value) -> Result<Option<Text>, AllocError>
     }
 }
 
-/// The line of these bytes, where they are one.
+/// The line of these bytes, if they are one.
 #[tactic(auto, using(crate::proofs::Places::passed_line))]
 fn line_of(alloc: Global, bytes: &[u8]) -> Result<Option<Text>, AllocError>
     ensures { IfOk result (λ line. line ≡ line_of bytes.now) }
@@ -59,7 +59,7 @@ fn line_of(alloc: Global, bytes: &[u8]) -> Result<Option<Text>, AllocError>
     Ok(Text::from_bytes(Vec::from_slice(alloc, bytes)?))
 }
 
-/// Reads the lines of values behind those that were read, and tells whether each value is one.
+/// Reads the lines of values after those that were read, and returns whether each value is one.
 fn read_lines(alloc: Global, values: &[Value], lines: &mut Vec<Text>) -> Result<bool, AllocError>
     ensures { IfOk result (λ all. lines_after lines.old.items (items_view values.now)
         ≡ (if all then Some lines.new.items else None)) }
@@ -76,7 +76,7 @@ fn read_lines(alloc: Global, values: &[Value], lines: &mut Vec<Text>) -> Result<
     }
 }
 
-/// The lines of values, where each is one.
+/// The lines of values, if each is one.
 pub(crate) fn lines_of(alloc: Global, values: &[Value]) -> Result<Option<Vec<Text>>, AllocError>
     ensures { IfOk result (λ lines.
         option_map (λ all. all.items) lines ≡ lines_after [] (items_view values.now)) }

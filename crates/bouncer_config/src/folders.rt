@@ -17,7 +17,7 @@ use raft_log::NodeId;
 use std::alloc::{AllocError, Global};
 use toml::{Table, Value};
 
-/// The folder in which the journal of a node lies, of one for all nodes or one for each.
+/// The folder with the journal of a node, from one for all nodes or one for each.
 pub fn folder_of(folders: &[String], node: NodeId) -> &str
     ensures { result.now ≡ folder_of (map string_bytes folders.now) node }
 {
@@ -30,7 +30,7 @@ pub fn folder_of(folders: &[String], node: NodeId) -> &str
     }
 }
 
-/// The path of a value, where it is one.
+/// The path of a value, if it is one.
 fn path_at(alloc: Global, value: &Value) -> Result<Option<String>, AllocError>
     ensures path { IfOk result (λ path. option_map string_bytes path
         ≡ option_and_then path_of (as_str (view value.now))) }
@@ -41,7 +41,7 @@ fn path_at(alloc: Global, value: &Value) -> Result<Option<String>, AllocError>
     }
 }
 
-/// Reads the paths of values behind those that were read, and tells whether each value is one.
+/// Reads the paths of values after those that were read, and returns whether each value is one.
 fn read_paths(alloc: Global, values: &[Value], paths: &mut Vec<String>) -> Result<bool, AllocError>
     ensures { IfOk result (λ all. paths_after (map string_bytes paths.old.items)
         (items_view values.now) ≡ (if all then Some (map string_bytes paths.new.items) else None)) }
@@ -58,7 +58,7 @@ fn read_paths(alloc: Global, values: &[Value], paths: &mut Vec<String>) -> Resul
     }
 }
 
-/// The paths of values, where each is one.
+/// The paths of values, if each is one.
 fn paths_of(alloc: Global, values: &[Value]) -> Result<Option<Vec<String>>, AllocError>
     ensures { IfOk result (λ paths. option_map (λ all. map string_bytes all.items) paths
         ≡ paths_after [] (items_view values.now)) }
@@ -71,7 +71,7 @@ fn paths_of(alloc: Global, values: &[Value]) -> Result<Option<Vec<String>>, Allo
     }
 }
 
-/// The paths that a value says, which is one or a list of them.
+/// The paths of a value, which is one path or a list of them.
 pub(crate) fn paths_in(alloc: Global, value: &Value) -> Result<Option<Vec<String>>, AllocError>
     ensures { IfOk result (λ paths. option_map (λ all. map string_bytes all.items) paths
         ≡ paths_in (view value.now)) }
@@ -92,14 +92,14 @@ pub(crate) fn paths_in(alloc: Global, value: &Value) -> Result<Option<Vec<String
     }
 }
 
-/// Whether a value may say paths: it is a text or a list.
+/// Whether a value may give paths: it is a text or a list.
 pub(crate) fn may_say_paths(value: &Value) -> bool
     ensures { result ≡ has_kind Kind.Paths (view value.now) }
 {
     value.as_str().is_some() || value.as_array().is_some()
 }
 
-/// Whether a path stands among others.
+/// Whether a path is among others.
 fn is_among(path: &str, others: &[String]) -> bool
     ensures { result ≡ list_any (λ q. same_bytes q path.now) (map string_bytes others.now) }
 {
@@ -111,7 +111,7 @@ fn is_among(path: &str, others: &[String]) -> bool
     }
 }
 
-/// Whether no path stands twice.
+/// Whether no path occurs twice.
 pub(crate) fn are_apart(paths: &[String]) -> bool
     ensures { result ≡ are_apart (map string_bytes paths.now) }
 {
@@ -121,7 +121,7 @@ pub(crate) fn are_apart(paths: &[String]) -> bool
     }
 }
 
-/// Whether so many folders do for the nodes: one for all, or one for each, where it is known how many there are.
+/// Whether this many folders suffice for the nodes: one for all, or one for each, if their number is known.
 pub(crate) fn serves(nodes: Option<usize>, folders: usize) -> bool
     ensures { result ≡ serves nodes folders }
 {
@@ -131,7 +131,7 @@ pub(crate) fn serves(nodes: Option<usize>, folders: usize) -> bool
     }
 }
 
-/// The folders of the journals, one for all nodes or one for each of so many.
+/// The folders of the journals, one for all nodes or one for each of this many.
 pub(crate) fn store(alloc: Global, table: &Table, nodes: usize) -> Result<Vec<String>, Problem>
     requires { option_map item_count (list_at Key.Listen (table_view table.now)) ≡ Some nodes }
     ensures ok { IfOk result (λ paths. paths_at Key.Store (table_view table.now)

@@ -15,8 +15,8 @@ use crate::unknown::{ALL_KEYS, is_known};
 use std::alloc::{AllocError, Global};
 use toml::Table;
 
-/// All that is wrong with the table of a text, in the order of the lines. What stands in no line
-/// comes last.
+/// All that is wrong with the table of a text, in the order of the lines. Faults without a line
+/// come last.
 pub(crate) fn all_faults(
     alloc: Global,
     text: &[u8],
@@ -31,14 +31,14 @@ pub(crate) fn all_faults(
     Ok(faults)
 }
 
-/// Where a fault is told among others.
+/// The position of a fault among others.
 fn place_of(fault: &KeyFault) -> usize
     ensures { result ≡ place_of fault.now }
 {
     fault.line.unwrap_or(usize::MAX)
 }
 
-/// A problem of a table as it is told.
+/// A problem of a table as a fault.
 fn fault_of(alloc: Global, text: &[u8], table: &Table, problem: Problem) -> KeyFault
     ensures { result.problem ≡ problem }
 {
@@ -49,14 +49,14 @@ fn fault_of(alloc: Global, text: &[u8], table: &Table, problem: Problem) -> KeyF
     }
 }
 
-/// That no key has a name.
+/// The fault that no key has this name.
 fn unknown(alloc: Global, name: &str) -> Result<Problem, AllocError>
     ensures { IfOk result (λ problem. told_of problem ≡ NoKey name.now) }
 {
     Ok(Problem::Unknown(String::from_str(alloc, name)?))
 }
 
-/// Puts each name that no key has behind the faults that were found.
+/// Appends a fault for each name that no key has.
 fn gather_names(
     alloc: Global,
     text: &[u8],
@@ -75,7 +75,7 @@ fn gather_names(
     Ok(())
 }
 
-/// Puts what is wrong with each of these keys behind the faults that were found.
+/// Appends what is wrong with each of these keys.
 fn gather_keys(
     alloc: Global,
     text: &[u8],

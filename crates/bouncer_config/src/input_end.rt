@@ -13,7 +13,7 @@ pub enum InputEnd {
 }
 
 impl InputEnd {
-    /// What the end of standard input does by this word: `stop` or `ignore`.
+    /// What the end of standard input does, from this word: `stop` or `ignore`.
     pub fn from_text(text: &[u8]) -> Option<InputEnd>
         ensures { result ≡ input_end_of text.now }
     {

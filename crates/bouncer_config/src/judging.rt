@@ -40,7 +40,7 @@ pub(crate) fn wrong_at(
     }
 }
 
-/// What a table says of the server and of the nodes, by which other keys are judged.
+/// What a table says about the server and the nodes, which other keys are checked against.
 #[derive(Clone, Copy)]
 pub(crate) struct Around {
     pub server: Option<Address>,
@@ -48,7 +48,7 @@ pub(crate) struct Around {
     pub nodes: Option<usize>,
 }
 
-/// What a table says of the server and of the nodes.
+/// What a table says about the server and the nodes.
 fn around_of(table: &Table) -> Around
     ensures { result ≡ around_of (table_view table.now) }
 {
@@ -58,7 +58,7 @@ fn around_of(table: &Table) -> Around
     }
 }
 
-/// How many addresses to listen at the table has, where it has a list of them.
+/// How many addresses to listen at the table has, if it has a list of them.
 #[tactic(auto, using(crate::proofs::Places::count_of_items))]
 fn nodes_of(table: &Table) -> Option<usize>
     ensures { result ≡ nodes_of (table_view table.now) }
@@ -67,7 +67,7 @@ fn nodes_of(table: &Table) -> Option<usize>
     Some(values.len())
 }
 
-/// The address of the upstream server, where the table has one.
+/// The address of the upstream server, if the table has one.
 fn server_of(table: &Table) -> Option<Address>
     ensures { result ≡ server_of (table_view table.now) }
 {
@@ -94,7 +94,7 @@ fn wrong_value(
     }
 }
 
-/// What is wrong with the value of a key that is to be a text.
+/// What is wrong with the value of a key that must be a text.
 fn wrong_text(key: Key, value: &Value) -> Option<Problem>
     ensures { result ≡ wrong_text key (as_str (view value.now)) }
 {
@@ -120,7 +120,7 @@ fn may_have_text(key: Key, text: &[u8]) -> bool
     }
 }
 
-/// What is wrong with the value of a key that is to be a number.
+/// What is wrong with the value of a key that must be a number.
 fn wrong_number(key: Key, value: &Value) -> Option<Problem>
     ensures { result ≡ wrong_number key (as_integer (view value.now)) }
 {
@@ -141,7 +141,7 @@ fn may_have_number(key: Key, number: i64) -> bool
     }
 }
 
-/// What is wrong with the value of a key that is to be a truth value.
+/// What is wrong with the value of a key that must be a truth value.
 fn wrong_truth(key: Key, value: &Value) -> Option<Problem>
     ensures { result ≡ wrong_truth key (as_bool (view value.now)) }
 {
@@ -151,7 +151,7 @@ fn wrong_truth(key: Key, value: &Value) -> Option<Problem>
     }
 }
 
-/// What is wrong with the value of a key that is to be a list.
+/// What is wrong with the value of a key that must be a list.
 fn wrong_list(
     alloc: Global,
     server: Option<Address>,
@@ -172,7 +172,7 @@ fn wrong_list(
     }
 }
 
-/// What is wrong with the values to listen at, beside the upstream server where it is known.
+/// What is wrong with the values to listen at, given the upstream server if it is known.
 #[tactic(auto, using(crate::proofs::Places::count_of_items))]
 fn wrong_listen(
     alloc: Global,
@@ -195,7 +195,7 @@ fn wrong_listen(
     }
 }
 
-/// Whether no address stands twice, and the server's, where it is known, not at all.
+/// Whether no address occurs twice, and the server's, if it is known, not at all.
 fn are_all_different(server: Option<Address>, addresses: &[Address]) -> bool
     ensures { result ≡ are_different (beside server addresses.now) }
 {
@@ -230,7 +230,7 @@ fn wrong_lines(alloc: Global, values: &[Value]) -> Result<Option<Problem>, Alloc
     }
 }
 
-/// What is wrong with the value of a key that is to be a path or a list of them, beside so many nodes where that is
+/// What is wrong with the value of a key that must be a path or a list of them, given the number of nodes if it is
 /// known.
 fn wrong_paths(
     alloc: Global,
@@ -249,7 +249,7 @@ fn wrong_paths(
     }
 }
 
-/// What is wrong with folders beside so many nodes, where that is known.
+/// What is wrong with folders, given the number of nodes if it is known.
 fn wrong_folders(nodes: Option<usize>, paths: &[String]) -> Option<Problem>
     ensures { result ≡ wrong_folders nodes (Some (map string_bytes paths.now)) }
 {
@@ -262,7 +262,7 @@ fn wrong_folders(nodes: Option<usize>, paths: &[String]) -> Option<Problem>
     }
 }
 
-/// What is wrong with the value of a key that is to be a table.
+/// What is wrong with the value of a key that must be a table.
 fn wrong_table(alloc: Global, key: Key, value: &Value) -> Result<Option<Problem>, AllocError>
     ensures { IfOk result (λ problem. problem ≡ wrong_table key (as_table (view value.now))) }
 {

@@ -34,7 +34,7 @@ pub enum Key {
     OnConnect,
 }
 
-/// What the value of a key is.
+/// The kind of a key's value.
 #[derive(Clone, Copy, Debug, PartialEq, Eq)]
 pub enum Kind {
     Text,
@@ -47,7 +47,7 @@ pub enum Kind {
     Truth,
 }
 
-/// The least and the most that a number may be, and what it is where it is not given.
+/// The least and the greatest value of a number, and its default.
 #[derive(Clone, Copy, Debug, PartialEq, Eq)]
 pub struct Limits {
     pub least: u32,
@@ -64,7 +64,7 @@ impl Limits {
 }
 
 impl Key {
-    /// The word under which the key stands in the text.
+    /// The word of the key in the text.
     pub fn text(self) -> &'static str
         ensures { result.now ≡ key_text self }
     {
@@ -96,7 +96,7 @@ impl Key {
         }
     }
 
-    /// What the key's value is to be.
+    /// The kind of the key's value.
     pub fn kind(self) -> Kind
         ensures { result ≡ kind_of self }
     {
@@ -112,7 +112,7 @@ impl Key {
         }
     }
 
-    /// Whether no configuration goes without the key.
+    /// Whether every configuration needs the key.
     pub(crate) fn is_needed(self) -> bool
         ensures { result ≡ is_needed self }
     {
@@ -122,18 +122,18 @@ impl Key {
         )
     }
 
-    /// The limits of a key whose value is a natural number; of any other key 0 throughout.
+    /// The limits of a key whose value is a natural number; 0 throughout for any other key.
     pub fn limits(self) -> Limits
         ensures { result ≡ limits_of self }
     {
         match self {
-            // what is kept lies in the memory of each node, and is played whole
+            // what is kept is in the memory of each node, and is played back whole
             Key::ChanBufferSize | Key::QueryBufferSize => Limits::new(0, MOST_LINES as u32, 50),
             Key::MaxQueryBuffers => Limits::new(1, MOST_QUERIES as u32, 50),
             // without a leader nothing is agreed, and nobody should wait more than a minute
             Key::BeatMs => Limits::new(10, 10_000, 100),
             Key::TimeoutMs => Limits::new(50, 60_000, 1_000),
-            // as most servers take them: a few lines at once, then one in two seconds
+            // as most servers allow: a few lines at once, then one in two seconds
             Key::FloodBurst => Limits::new(1, 100, 5),
             Key::FloodMs => Limits::new(0, 60_000, 2_000),
             // no log has more entries

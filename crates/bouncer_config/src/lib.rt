@@ -1,7 +1,6 @@
-//! The configuration of a running bouncer: what a TOML text says of it, and why one is refused.
-//! Stands under run_plan, bouncer_run and buffer_cases.
-//! A configuration that is taken says what its table says, or the defaults, within all limits; of one that is not
-//! all that is wrong is told.
+//! The configuration of a running bouncer: what a TOML text says about it, and why one is refused. Used by run_plan,
+//! bouncer_run and buffer_cases. A configuration that is accepted says what its table says, or the defaults, within all
+//! limits; for one that is refused, all that is wrong is reported.
 #![tactic(auto)]
 
 mod address;

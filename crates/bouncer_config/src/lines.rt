@@ -1,4 +1,4 @@
-//! In which line of a text something stands.
+//! In which line of a text something is.
 use crate::address::Address;
 use crate::first_lines::is_a_first_line;
 use crate::key::Key;
@@ -6,14 +6,14 @@ use crate::problem::Problem;
 use irc_line::is_channel_name;
 use toml::{Table, Value};
 
-/// The line, from 1, in which the byte at this place stands.
+/// The line, from 1, with the byte at this place.
 pub(crate) fn line_at(text: &[u8], place: usize) -> usize {
     let before = &text[..place.min(text.len())];
     let ends = before.iter().filter(|byte| **byte == b'\n').count();
     ends.saturating_add(1)
 }
 
-/// The line in which the key of a problem stands, or the element of its list, where one does.
+/// The line with the key of a problem, or with the element of its list, if it is about one.
 pub(crate) fn line_of(text: &[u8], table: &Table, problem: &Problem) -> Option<usize> {
     if let Problem::Missing(_) = problem {
         return None;
@@ -43,7 +43,7 @@ fn begins_with_key(line: &[u8], key: &[u8]) -> bool {
     }
 }
 
-/// The first text of a list that may not stand in it, where a problem is of one.
+/// The first text of a list that is not allowed in it, if a problem is about one.
 pub(crate) fn refused_element<'a>(table: &'a Table, problem: &Problem) -> Option<&'a str> {
     let key = match problem {
         Problem::Refused(Key::Listen) => Key::Listen,
@@ -56,7 +56,7 @@ pub(crate) fn refused_element<'a>(table: &'a Table, problem: &Problem) -> Option
     value.as_str()
 }
 
-/// Whether a value may not stand in the list of this key.
+/// Whether a value is not allowed in the list of this key.
 fn is_refused(key: Key, value: &Value) -> bool {
     let Some(text) = value.as_str() else {
         return true;
@@ -68,8 +68,8 @@ fn is_refused(key: Key, value: &Value) -> bool {
     }
 }
 
-/// The first line, from that of its list's key on, in which an element stands as it is; where none
-/// has it, as it is spelled another way, the key's.
+/// The first line, from that of its list's key on, that has an element as it is; if none has it,
+/// since it is written in another way, the key's line.
 fn line_of_element(text: &[u8], line: usize, element: &[u8]) -> usize {
     let place = text
         .split(|byte| *byte == b'\n')
@@ -81,7 +81,7 @@ fn line_of_element(text: &[u8], line: usize, element: &[u8]) -> usize {
     }
 }
 
-/// Whether these bytes stand in a line between quotes.
+/// Whether a line has these bytes between quotes.
 fn holds(line: &[u8], bytes: &[u8]) -> bool {
     line.split(|byte| *byte == b'"' || *byte == b'\'')
         .any(|piece| piece == bytes)

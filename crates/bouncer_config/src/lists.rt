@@ -19,14 +19,14 @@ use irc_line::{Name, is_channel_name, is_name_below};
 use std::alloc::{AllocError, Global};
 use toml::{Table, Value};
 
-/// The address of a value, where it is one.
+/// The address of a value, if it is one.
 pub(crate) fn address_at(value: &Value) -> Option<Address>
     ensures { result ≡ option_and_then address_of (as_str (view value.now)) }
 {
     Address::from_text(value.as_str()?.as_bytes())
 }
 
-/// Reads the addresses of values behind those that were read, and tells whether each value is one.
+/// Reads the addresses of values after those that were read, and returns whether each value is one.
 pub(crate) fn read_addresses(
     values: &[Value],
     addresses: &mut Vec<Address>,
@@ -48,7 +48,7 @@ pub(crate) fn read_addresses(
     }
 }
 
-/// The channel of this name, where it is one's.
+/// The channel of this name, if it is one's.
 #[tactic(auto, using(crate::proofs::Places::named_channel))]
 pub(crate) fn channel_named(alloc: Global, name: &[u8]) -> Result<Option<Name>, AllocError>
     ensures { IfOk result (λ c. c ≡ channel_of name.now) }
@@ -59,7 +59,7 @@ pub(crate) fn channel_named(alloc: Global, name: &[u8]) -> Result<Option<Name>, 
     Ok(Name::from_bytes(Vec::from_slice(alloc, name)?))
 }
 
-/// The channel of a value, where it names one.
+/// The channel of a value, if it names one.
 fn channel_at(alloc: Global, value: &Value) -> Result<Option<Name>, AllocError>
     ensures { IfOk result (λ c. c ≡ option_and_then channel_of (as_str (view value.now))) }
 {
@@ -80,7 +80,7 @@ fn place_in(names: &[Name], name: &[u8]) -> usize
     }
 }
 
-/// Puts a name where it belongs among names that rise.
+/// Inserts a name where it belongs among names that rise.
 #[tactic(auto, using(crate::proofs::Places::insert_place))]
 fn put_in(name: Name, names: &mut Vec<Name>) -> Result<(), AllocError>
     ensures { IfOk result (λ _. names.new.items ≡ put_in name names.old.items) }
@@ -90,7 +90,7 @@ fn put_in(name: Name, names: &mut Vec<Name>) -> Result<(), AllocError>
     Ok(())
 }
 
-/// Reads the channels of values into those that were read, and tells whether each value is one.
+/// Reads the channels of values into those that were read, and returns whether each value is one.
 fn read_channels(alloc: Global, values: &[Value], names: &mut Vec<Name>) -> Result<bool, AllocError>
     ensures { IfOk result (λ all. names_after names.old.items (items_view values.now)
         ≡ (if all then Some names.new.items else None)) }
@@ -107,7 +107,7 @@ fn read_channels(alloc: Global, values: &[Value], names: &mut Vec<Name>) -> Resu
     }
 }
 
-/// Whether a group may have so many nodes.
+/// Whether a group may have this many nodes.
 pub(crate) fn is_group(count: usize) -> bool
     ensures group { IsTrue result ↔ IsGroupSize count }
     ensures value { result ≡ is_group count }
@@ -115,14 +115,14 @@ pub(crate) fn is_group(count: usize) -> bool
     count == 3 || count == 5 || count == 7
 }
 
-/// Whether an address stands among others.
+/// Whether an address is among others.
 pub(crate) fn is_among(address: Address, others: &[Address]) -> bool
     ensures { result ≡ list_any (λ q. q == address) others.now }
 {
     others.iter().any(|other| other.port() == address.port())
 }
 
-/// Whether no address stands twice.
+/// Whether no address occurs twice.
 pub(crate) fn are_different(addresses: &[Address]) -> bool
     ensures { result ≡ are_different addresses.now }
 {
@@ -144,7 +144,7 @@ fn listed(table: &Table) -> Result<&[Value], Problem>
     }
 }
 
-/// The values to listen at, as many as a group has nodes.
+/// The values to listen at, if they are as many as a group has nodes.
 fn listed_for_a_group(table: &Table) -> Result<&[Value], Problem>
     ensures ok { IfOk result (λ v.
         list_at Key.Listen (table_view table.now) ≡ Some (items_view v.now)) }
@@ -158,7 +158,7 @@ fn listed_for_a_group(table: &Table) -> Result<&[Value], Problem>
     Ok(values)
 }
 
-/// The addresses to listen at, one for each node, beside that of the upstream server.
+/// The addresses to listen at, one for each node, given that of the upstream server.
 pub(crate) fn listen(
     alloc: Global,
     table: &Table,
@@ -180,7 +180,7 @@ pub(crate) fn listen(
     Ok(addresses)
 }
 
-/// The channels that values name, by rising folded names.
+/// The channels that values name, in rising order of folded names.
 pub(crate) fn named_channels(
     alloc: Global,
     values: &[Value],
@@ -213,7 +213,7 @@ fn channel_values(table: &Table) -> Result<Option<&[Value]>, Problem>
     }
 }
 
-/// The channels by rising folded names, none by default.
+/// The channels in rising order of folded names, none by default.
 pub(crate) fn channels(alloc: Global, table: &Table) -> Result<Vec<Name>, Problem>
     ensures ok { IfOk result (λ v.
         channels_in (value_at Key.Channels (table_view table.now)) ≡ Some v.items) }

@@ -3,7 +3,7 @@ ghost use Rattle.bouncer_config.specs.Texts.{level_of};
 
 use irc_line::is_same;
 
-/// How much a bouncer tells on standard error.
+/// How much a bouncer logs on standard error.
 #[derive(Clone, Copy, Debug, PartialEq, Eq)]
 pub enum LogLevel {
     Quiet,

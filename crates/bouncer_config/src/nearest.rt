@@ -8,11 +8,11 @@ use std::alloc::{AllocError, Global};
 use strsim::levenshtein;
 
 /// The most edits between a name and the key that was meant.
-// a letter too many, too few or another one, twice at most
+// a letter added, missing or changed, twice at most
 const MOST_EDITS: usize = 2;
 
 /// The most bytes of a name that is near to a key.
-// the longest key has 23, and a name that is near to it two letters more
+// the longest key has 23, and a name that is near to it has at most two more
 const LONGEST_NAME: usize = 32;
 
 /// A key, and how many edits away from a name it is.
@@ -22,7 +22,7 @@ struct Near {
     distance: usize,
 }
 
-/// The key that is nearest to a name, where one is near to it and memory does not run out.
+/// The key that is nearest to a name, if one is near to it and memory does not run out.
 pub(crate) fn nearest_key(alloc: Global, name: &str) -> Option<Key>
     ensures { IfSome result (IsNear name.now) }
 {
@@ -54,7 +54,7 @@ fn nearest_of(alloc: Global, name: &str, keys: &[Key]) -> Result<Option<Near>, A
     }
 }
 
-/// Another key, where it is nearer than this one, and else this one.
+/// Another key if it is nearer than this one, else this one.
 fn nearer(near: Near, other: Option<Near>) -> Near
     ensures { result ≡ nearer near other }
 {

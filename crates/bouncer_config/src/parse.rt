@@ -14,9 +14,9 @@ use std::alloc::Global;
 use toml::Table;
 use toml::de::Error;
 
-/// The configuration of a TOML text. A fault tells the first problem, in the order of
-/// [`Config::from_table`], and the line in which its key, the element of its list, or what is no
-/// TOML stands; and all that is wrong with the table, where memory does not run out.
+/// The configuration of a TOML text. A fault has the first problem, in the order of
+/// [`Config::from_table`], and the line of its key, of the element of its list, or of what is no
+/// TOML; and all that is wrong with the table, unless memory runs out.
 pub fn parse_config(alloc: Global, text: &[u8]) -> Result<Config, ConfigFault>
     ensures ok { IfOk result (Says text.now) }
     ensures err { IfErr result (λ fault. IsFault text.now fault.problem) }
@@ -51,7 +51,7 @@ fn table_fault(alloc: Global, text: &[u8], table: &Table, problem: Problem) -> C
     }
 }
 
-/// The fault of a text that is no TOML, or of memory that ran out.
+/// The fault of a text that is no TOML, or of running out of memory.
 fn not_toml(alloc: Global, text: &[u8], error: &Error) -> ConfigFault
     ensures memory { IsMemory error.now → result.problem ≡ Problem.Memory }
     ensures toml { ¬ IsMemory error.now → result.problem ≡ Problem.NotToml }

@@ -6,10 +6,11 @@ ghost use Rattle.bouncer_config.specs.Texts.{is_password, is_password_byte};
 use std::marker::Model;
 
 /// The most bytes of a password.
-// PASS with it stays far below the limit of a line
+// with PASS before it, it stays far below the limit of a line
 const PASSWORD_LIMIT: usize = 64;
 
-/// A password: 1 to 64 bytes, none of them a space or what no line carries (NUL, CR and LF).
+/// A password: 1 to 64 bytes, none of them a space or a byte that no line can have (NUL, CR and
+/// LF).
 #[derive(Drop)]
 pub struct Password {
     bytes: Vec<u8>,
@@ -27,7 +28,7 @@ impl Model for Password {
 }
 
 impl Password {
-    /// The password of these bytes, where they are one.
+    /// The password of these bytes, if they are one.
     pub fn from_bytes(bytes: Vec<u8>) -> Option<Password>
         ensures { MatchOption result (is_password bytes.items ≡ false)
             (IsPassed is_password bytes.items) }

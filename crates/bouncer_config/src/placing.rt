@@ -1,4 +1,4 @@
-//! The paths of a configuration, which go by the folder of its file.
+//! The paths of a configuration, which are relative to the folder of its file.
 ghost use Rattle.std.specs.Prelude.{◌≡◌, ◌++◌, IfOk, OnErr, OnOk, map, option_map, string_bytes};
 ghost use Rattle.bouncer_config.specs.Placing.{IsPlaced, placed};
 
@@ -7,8 +7,8 @@ use std::alloc::{AllocError, Global};
 use std::path::Path;
 
 impl Config {
-    /// The paths that are not absolute go by the folder of this file, which the configuration was
-    /// read from. A refused call changes nothing.
+    /// Makes the paths that are not absolute relative to the folder of this file, from which the
+    /// configuration was read. A refused call changes nothing.
     pub fn place(&mut self, alloc: Global, file: &str) -> Result<(), AllocError>
         ensures ok { OnOk result (IsPlaced file.now self.old self.new) }
         ensures err { OnErr result (self.new ≡ self.old) }
@@ -21,7 +21,7 @@ impl Config {
     }
 }
 
-/// Paths, as a file places each.
+/// Paths, each placed by a file.
 fn placed_all(alloc: Global, file: &str, paths: &[String]) -> Result<Vec<String>, AllocError>
     ensures { IfOk result (λ all.
         map string_bytes all.items ≡ map (placed file.now) (map string_bytes paths.now)) }
@@ -31,7 +31,7 @@ fn placed_all(alloc: Global, file: &str, paths: &[String]) -> Result<Vec<String>
     Ok(all)
 }
 
-/// Puts paths behind others, as a file places each.
+/// Appends paths, each placed by a file.
 fn push_placed(
     alloc: Global,
     file: &str,
@@ -50,7 +50,7 @@ fn push_placed(
     }
 }
 
-/// The path of a record, if one is written, as a file places it.
+/// The path of a record, if there is one, placed by a file.
 fn placed_record(
     alloc: Global,
     file: &str,
@@ -65,7 +65,7 @@ fn placed_record(
     }
 }
 
-/// A path, as it stands in a file.
+/// A path in a file, placed by that file.
 fn placed(alloc: Global, file: &str, path: &str) -> Result<String, AllocError>
     ensures { IfOk result (λ text. string_bytes text ≡ placed file.now path.now) }
 {

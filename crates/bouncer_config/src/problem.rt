@@ -3,32 +3,32 @@ use buffer_commands::SetupFault;
 use std::alloc::AllocError;
 use std::fmt;
 
-/// What is wrong with a configuration, or that memory ran out as it was read.
+/// What is wrong with a configuration, or that memory ran out while it was read.
 #[derive(Debug, Drop)]
 pub enum Problem {
-    /// Memory ran out, which says nothing of the text.
+    /// Memory ran out, which means nothing for the text.
     Memory,
     /// The text is no TOML, or no UTF-8.
     NotToml,
     /// No key has this name.
     Unknown(String),
-    /// This key is needed, and it is not there.
+    /// This key is needed, and it is missing.
     Missing(Key),
-    /// The value of this key is no text, number, truth value or list, as it is to be.
+    /// The value of this key is not the text, number, truth value or list that it must be.
     Kind(Key),
-    /// The value of this key is not one that the key may have.
+    /// The value of this key is not allowed.
     Refused(Key),
-    /// There are not three, five or seven addresses to listen at.
+    /// The addresses to listen at are not three, five or seven.
     ListenCount,
     /// Two addresses to listen at are the same, or one of them is the upstream server's.
     ListenTwice,
-    /// There are more folders than one, and not as many as addresses to listen at.
+    /// There is more than one folder, and not as many as addresses to listen at.
     StoreCount,
     /// Two folders are the same.
     StoreTwice,
     /// There are more than 100 channels.
     ChannelCount,
-    /// No setup has these channels: one stands twice among them.
+    /// No setup has these channels: one occurs twice among them.
     Setup(SetupFault),
 }
 
@@ -44,7 +44,7 @@ impl From<AllocError> for Problem {
 }
 
 impl Problem {
-    /// The text of the key with which something is wrong, or the name that no key has.
+    /// The word of the key that has the fault, or the name that no key has.
     pub(crate) fn key_text(&self) -> Option<&str> {
         match self {
             Problem::Memory | Problem::NotToml => None,

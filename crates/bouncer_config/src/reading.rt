@@ -12,14 +12,14 @@ use crate::problem::Problem;
 use buffer_lines::Offset;
 use toml::{Table, Value};
 
-/// The value of a key, where it stands in the table.
+/// The value of a key, if the table has one.
 pub(crate) fn find(table: &Table, key: Key) -> Option<&Value>
     ensures { option_map (λ v. view v.now) result ≡ value_at key (table_view table.now) }
 {
     table.get(key.text())
 }
 
-/// The value of a key that no configuration goes without.
+/// The value of a key that every configuration needs.
 pub(crate) fn needed(table: &Table, key: Key) -> Result<&Value, Problem>
     requires { IsTrue (is_needed key) }
     ensures ok { IfOk result (λ v. value_at key (table_view table.now) ≡ Some (view v.now)) }
@@ -31,7 +31,7 @@ pub(crate) fn needed(table: &Table, key: Key) -> Result<&Value, Problem>
     }
 }
 
-/// The text of a key that no configuration goes without.
+/// The text of a key that every configuration needs.
 pub(crate) fn needed_text(table: &Table, key: Key) -> Result<&str, Problem>
     requires needed { IsTrue (is_needed key) }
     requires kind { kind_of key ≡ Kind.Text }
@@ -44,7 +44,7 @@ pub(crate) fn needed_text(table: &Table, key: Key) -> Result<&str, Problem>
     }
 }
 
-/// The text of a key, where one is given.
+/// The text of a key, if there is one.
 pub(crate) fn text(table: &Table, key: Key) -> Result<Option<&str>, Problem>
     requires { kind_of key ≡ Kind.Text }
     ensures ok { IfOk result (λ s. text_in (value_at key (table_view table.now))
@@ -60,7 +60,7 @@ pub(crate) fn text(table: &Table, key: Key) -> Result<Option<&str>, Problem>
     }
 }
 
-/// This number, where it is within limits.
+/// This number, if it is within limits.
 pub(crate) fn number_within(number: i64, limits: Limits) -> Option<u32>
     ensures value { result ≡ within limits number }
     ensures most { IfSome result (λ n. n ≤ limits.most) }
@@ -71,7 +71,7 @@ pub(crate) fn number_within(number: i64, limits: Limits) -> Option<u32>
     }
 }
 
-/// The number of a key, or what it is by default.
+/// The number of a key, or its default.
 pub(crate) fn number(table: &Table, key: Key) -> Result<u32, Problem>
     requires kind { kind_of key ≡ Kind.Number }
     requires natural { key ≢ Key.OffsetMinutes }
@@ -108,7 +108,7 @@ pub(crate) fn truth(table: &Table, key: Key) -> Result<bool, Problem>
     }
 }
 
-/// The offset of so many minutes, where there is one.
+/// The offset of this many minutes, if there is one.
 pub(crate) fn offset_of(minutes: i64) -> Option<Offset>
     ensures { result ≡ above_least minutes }
 {
@@ -136,7 +136,7 @@ pub(crate) fn offset(table: &Table) -> Result<Offset, Problem>
     }
 }
 
-/// How much is told on standard error, `info` by default.
+/// How much is logged on standard error, `info` by default.
 pub(crate) fn log(table: &Table) -> Result<LogLevel, Problem>
     ensures ok { IfOk result (λ l. level_in (value_at Key.Log (table_view table.now)) ≡ Some l) }
     ensures err { IfErr result (IsProblem (table_view table.now)) }

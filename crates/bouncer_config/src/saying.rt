@@ -4,7 +4,7 @@ use crate::key::{Key, Kind};
 use crate::problem::Problem;
 use std::fmt;
 
-/// The line of a problem, its key, what is wrong and what to do.
+/// Writes the line of a problem, its key, what is wrong and what to do.
 pub(crate) fn write_fault<W: fmt::Write>(
     f: &mut fmt::Formatter<W>,
     line: Option<usize>,
@@ -42,7 +42,7 @@ fn write_key<W: fmt::Write>(f: &mut fmt::Formatter<W>, key: Option<&str>) -> fmt
     }
 }
 
-/// What is wrong, without the key with which it is.
+/// What is wrong, without the key.
 fn reason(problem: &Problem) -> &'static str {
     match problem {
         Problem::Memory => "out of memory",

@@ -41,7 +41,7 @@ none-of_sessions : (e : FenceEffect Effect) → handed_by (session_class e) ≡ 
 none-of_sessions (fence_effect.Inner e) = none-of_buffers e
 none-of_sessions (fence_effect.Rejoin id line) = refl
 
--- what is handed out by class is what the claims hand out
+-- the lines that an effect hands out by its class are those that the claims hand out
 hand-below : (e : ClaimsEffect (FenceEffect Effect)) → handed_by (claim_class e) ≡ below.hand_of e
 hand-below (claims_effect.Inner e) = none-of_sessions e
 hand-below (claims_effect.Busy o) = refl
@@ -63,7 +63,7 @@ hands-refused : (o : Origin) (n was : ℕ) (b : Bool) → nat_le n was ≡ b →
 hands-refused o n was true e = rw e refl
 hands-refused o n was false e = rw e refl
 
--- word of a mark hands out nothing
+-- the answer to a mark hands out nothing
 hands-marked : (m : mark.Mark) (b : Bool) → is_node m.node ≡ b → hands (answer.Marked m ∷ []) ≡ []
 hands-marked m true e = rw e refl
 hands-marked m false e = rw e refl
@@ -82,7 +82,8 @@ module _ (s : Settings) where
   abbrev below_at : History Claimed → ℕ → Claimed → List Handed
   below_at h place c = below.hands (claimed_effects s h place c)
 
-  -- what a body comes to below the requests: a command, with all that it hands out; or nothing
+  -- what a body gives to the layers below the requests: a command, with all that it hands out; or
+  -- nothing
   abbrev comes_to : History TowerBody → ℕ → TowerBody → Type 0
   comes_to h place x =
       ((c : Claimed) × (accepted ((place, x) ∷ h) ≡ (place, c) ∷ accepted h) × (hands (answers s h place x) ≡ below_at (accepted h) place c))
@@ -117,7 +118,7 @@ module _ (s : Settings) where
   stay-by h place x (inl c) = ap (λ k. take (length (outgoing_at (accepted h))) (outgoing_at k)) c.1 ∙ handing.lines_stay sessions.session (sessions.sent sent) (sessioned_effects s) (accepted h) place c.0
   stay-by h place x (inr c) = ap (λ k. take (length (outgoing_at (accepted h))) (outgoing_at k)) c.0 ∙ handing.take_all (outgoing_at (accepted h))
 
--- the claims that a body adds are its hands
+-- the claims that a body adds are those of the lines that it hands out
 pub hands_are_claims : (s : Settings) (h : History TowerBody) (place : ℕ) (x : TowerBody) → claimed s ((place, x) ∷ h) ≡ claimed s h ++ map (λ k. k.0) (hands (answers s h place x))
 hands_are_claims s h place x = claims-by s h place x (comes s h place x)
 
@@ -146,7 +147,7 @@ hands_append : (xs ys : List TowerEffect) → hands (xs ++ ys) ≡ hands xs ++ h
 hands_append [] ys = refl
 hands_append (x ∷ xs) ys = ap (λ (hs : List Handed). hand_of x ++ hs) (hands_append xs ys) ∙ sym (append_assoc (hand_of x) (hands xs) (hands ys))
 
--- all that is handed out is the claims that took effect
+-- the lines that are handed out are those of the claims that took effect
 pub all_hands_are_claims : (s : Settings) (h : History TowerBody) → map (λ k. k.0) (handed_over s h) ≡ claimed s h
 unfolding claimed accepted
 all_hands_are_claims s [] =

@@ -129,6 +129,6 @@ body_short (body.Asked o n at a) h =
 body_short body.Blank h = omega arith
 body_short (body.Mark m) h = omega (arith, mark_length m)
 
--- a body that fits is spelled in no more bytes than a log takes
+-- a body that fits is spelled in no more bytes than a log accepts
 pub body_fits_a_log : (x : TowerBody) → FitsBody x → length (spelled_body x) ≤ 65536
 body_fits_a_log x h = omega (arith, body_short x h)

@@ -1,4 +1,5 @@
--- A request that is dropped is as if it had not come, and so is a blank or a mark.
+-- A request that is dropped changes nothing, as if it had not come, and neither does a blank or a
+-- mark.
 use Rattle.std.proofs.Common.{◌≡◌, ℕ, false, true, ◌∷◌, ◌++◌, ap}
 use Rattle.machine_laws.specs.Runs.{History}
 use Rattle.wire_bytes.specs.declared.origin.Origin.{Origin}

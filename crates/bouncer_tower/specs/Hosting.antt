@@ -1,4 +1,4 @@
--- What a node has to know of bodies and effects.
+-- What a node must know about bodies and effects.
 use Rattle.std.specs.Prelude.{ℕ, Bool, ◌&&◌, nat_le, if◌then◌else◌, List, [], ◌∷◌, ◌++◌, map}
 use Rattle.irc_line.specs.Lines.{Parts, spelling}
 use Rattle.irc_line.specs.Names.{fold_name}
@@ -26,36 +26,40 @@ use Rattle.request_once.specs.declared.body.Body.TheVariants as body
 use Rattle.request_once.specs.declared.answer.Answer.TheVariants as answer
 use Rattle.bouncer_tower.specs.Bodies.{Sessioned, Claimed, TowerBody, TowerEffect, answers, plain}
 
--- a command of the buffers, of the sessions, and the claim of a line, as bodies
+-- a command for the buffers, for the sessions, and the claim of a line, as bodies
 abbrev pub of_buffers : Command → TowerBody
 of_buffers c = body.Inner (claims.Inner (fence.Inner c))
 
--- a command of the sessions as a body
+-- a command for the sessions as a body
 abbrev pub of_sessions : Sessioned → TowerBody
 of_sessions c = body.Inner (claims.Inner c)
 
--- a command of the claims as a body
+-- a command for the claims as a body
 abbrev pub of_claims : Claimed → TowerBody
 of_claims c = body.Inner c
 
--- Who may bring a body: the client of a request; a run of a node, its marks; a node, that another is gone; else the leader alone
+-- Who may bring a body: a request, its client; a mark, the run of its node; that a node is gone, another node; anything
+-- else, only the leader
 
--- who may bring a command of the buffers: a node, that another is gone; else the leader alone
+-- who may bring a command for the buffers: a node, if it says that another is gone; else only the leader
 abbrev pub command_source : Command → Source
 command_source (command.NodeGone node floor) = source.Node
 command_source _ = source.Leader
 
--- who may bring a command of the sessions: for one of the buffers, who may bring that; else the leader alone
+-- who may bring a command for the sessions: for one that goes to the buffers, whoever may bring that; else only the
+-- leader
 abbrev pub session_source : Sessioned → Source
 session_source (fence.Inner c) = command_source c
 session_source _ = source.Leader
 
--- who may bring a command of the claims: for one of the sessions, who may bring that; for a claim, the leader alone
+-- who may bring a command for the claims: for one that goes to the sessions, whoever may bring that; for a claim, only
+-- the leader
 abbrev pub claim_source : Claimed → Source
 claim_source (claims.Inner c) = session_source c
 claim_source (claims.Claim id n) = source.Leader
 
--- who may bring a body: the request's client, the mark's run, for a blank the leader, else who may bring the command
+-- who may bring a body: the request's client, the mark's run, for a blank the leader, else whoever may bring the
+-- command
 abbrev pub source_of : TowerBody → Source
 source_of (body.Inner c) = claim_source c
 source_of (body.Asked o n at a) = source.Client o
@@ -64,19 +68,19 @@ source_of (body.Mark m) = source.Run m.node m.boot
 
 -- Where an effect goes
 
--- to its client; what no numbering has taken up goes nowhere
+-- to its client; a line that has no number goes nowhere
 abbrev pub buffer_class : Effect → Class Parts
 buffer_class (effect.Close o) = To o
 buffer_class (effect.Show o shown) = To o
 buffer_class (effect.Send o line) = Nowhere
 buffer_class (effect.Rejoin line) = Nowhere
 
--- where an effect of the sessions goes: a line that joins a channel again, upstream; else as of the buffers
+-- where an effect of the sessions goes: a line that joins a channel again, upstream; else as for the buffers
 abbrev pub session_class : FenceEffect Effect → Class Parts
 session_class (fence_effect.Inner e) = buffer_class e
 session_class (fence_effect.Rejoin id line) = Rejoin id line
 
--- where an effect of the claims goes: a claimed line upstream, Busy to its client; else as of the sessions
+-- where an effect of the claims goes: a claimed line upstream, Busy to its client; else as for the sessions
 abbrev pub claim_class : ClaimsEffect (FenceEffect Effect) → Class Parts
 claim_class (claims_effect.Inner e) = session_class e
 claim_class (claims_effect.Busy o) = To o
@@ -86,11 +90,11 @@ claim_class (claims_effect.Hand id n line) = Hand id n line
 abbrev pub is_node : ℕ → Bool
 is_node n = nat_le 1 n && nat_le n 7
 
--- word of a mark goes to the run of its node, as the client 0; nowhere where there is no such node
+-- the answer to a mark goes to the run of its node, as the client 0; nowhere if there is no such node
 abbrev pub mark_class : mark.Mark → Class Parts
 mark_class m = if is_node m.node then To (m.node, m.boot, 0) else Nowhere
 
--- where an effect of the tower goes: an answer to its client, word of a mark to its run; else as of the claims
+-- where an effect of the tower goes: an answer to its client, the answer to a mark to its run; else as for the claims
 abbrev pub class_of : TowerEffect → Class Parts
 class_of (answer.Effect e) = claim_class e
 class_of (answer.Done o n) = To o
@@ -111,6 +115,6 @@ hands (e ∷ es) = hand_of e ++ hands es
 abbrev pub handed_over : Settings → History TowerBody → List Handed
 handed_over s h = hands (all_effects (answers s) h)
 
--- what is played of a target after a history
+-- what is played back for a target after a history
 unfoldable pub playback : Settings → History TowerBody → List ℕ → List (List ℕ)
 playback s h target = map spelling (buffers.playback s (commands (plain h)) (fold_name target))

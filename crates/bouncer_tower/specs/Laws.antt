@@ -12,14 +12,14 @@ use Rattle.request_once.specs.Fresh.{fresh, is_blank_or_mark, stays}
 use Rattle.bouncer_tower.specs.Bodies.{TowerBody, answers, claimed, outgoing}
 use Rattle.bouncer_tower.specs.Hosting.{hands}
 
--- a request that is not the next of its origin changes nothing of this, then or later
+-- a request that is not the next of its origin does not change the value of this function, then or later
 abbrev pub IgnoresDropped : {X : Type 0} → (History TowerBody → X) → Type 0
 IgnoresDropped what =
     (later earlier : History TowerBody) (place : ℕ) (origin : Origin) (number at : ℕ) (action : Action)
     → stays (fresh earlier) (Asked origin number at action) ≡ false
     → what (later ++ (place, Asked origin number at action) ∷ earlier) ≡ what (later ++ earlier)
 
--- a blank or a mark changes nothing of this, then or later
+-- a blank or a mark does not change the value of this function, then or later
 abbrev pub IgnoresBlanksAndMarks : {X : Type 0} → (History TowerBody → X) → Type 0
 IgnoresBlanksAndMarks what =
     (later earlier : History TowerBody) (place : ℕ) (body : TowerBody) → is_blank_or_mark body ≡ true → what (later ++ (place, body) ∷ earlier) ≡ what (later ++ earlier)
@@ -37,7 +37,7 @@ abbrev pub HaveDifferentNumbers : List Handed → Type 0
 HaveDifferentNumbers lines =
     (i j n : ℕ) (one other : SessionId) (line another : Parts) → slice_get lines i ≡ Some ((n, one), line) → slice_get lines j ≡ Some ((n, other), another) → i ≡ j
 
--- each of these claims is of one of these lines
+-- each of these claims is for one of these lines
 abbrev pub AreOf : List Parts → List (ℕ × SessionId) → Type 0
 AreOf lines claims = (i n : ℕ) (id : SessionId) → slice_get claims i ≡ Some (n, id) → (1 ≤ n) × (n ≤ length lines)
 

@@ -1,11 +1,12 @@
--- Which bodies are marks, and that the tower tells them. The theorems here need not be believed.
+-- Which bodies are marks, and that the tower recognizes them. The theorems here need not be
+-- trusted.
 use Rattle.std.proofs.Common.{◌≡◌, ◌↔◌, Option, Some, None, sym, ap, ◌∙◌}
 use Rattle.wire_bytes.specs.declared.mark.Mark.{Mark}
 use Rattle.machine_laws.specs.Marks.{IsBodyOf}
 use Rattle.request_once.specs.declared.body.Body.{Body}
 use Rattle.request_once.specs.declared.body.Body.TheVariants.{Inner, Asked, Blank, Mark as MarkOf}
 
--- the mark of a request's body, if it is one's
+-- the mark of a request's body, if the body is a mark
 abbrev pub mark_in : {C A : Type 0} → Body C A → Option Mark
 mark_in (Inner c) = None
 mark_in (Asked o n at a) = None

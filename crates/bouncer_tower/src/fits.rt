@@ -1,4 +1,4 @@
-//! That every body has a spelling: the types of its values keep their limits.
+//! Every body has a spelling, since the types of its values keep their limits.
 ghost use Rattle.bouncer_tower.specs.Spellings.{FitsBody, FitsClaimed, FitsSessioned};
 ghost use Rattle.wire_bytes.specs.Values.{FitsSession};
 

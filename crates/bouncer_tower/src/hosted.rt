@@ -129,7 +129,7 @@ impl Hosted for Tower {
     }
 }
 
-/// A number, where a claim may have it.
+/// A number, if a claim may have it.
 fn within_limit(number: Option<u64>) -> Option<Number>
     ensures { result ≡ within_limit number }
 {
@@ -139,10 +139,11 @@ fn within_limit(number: Option<u64>) -> Option<Number>
     }
 }
 
-/// The run of its node is told of a mark, as the client 0 of that run.
+/// A mark is answered to the run of its node, as the client 0 of that run.
 fn mark_class(mark: &Mark) -> Class<&Line>
     ensures { class_map (λ l. l.now) result ≡ mark_class mark.now }
 {
+    // the node of a mark may be any byte, that of an origin only 1 to 7
     if 1 <= mark.node && mark.node <= MOST_NODES {
         Class::To(Origin::new(mark.node, mark.boot.value(), 0))
     } else {
@@ -200,7 +201,7 @@ fn session_class(effect: &FenceEffect<Effect>) -> Class<&Line>
     }
 }
 
-/// What no session or no numbering has taken up goes nowhere.
+/// A line that no session or no numbering took goes nowhere.
 fn buffer_class(effect: &Effect) -> Class<&Line>
     ensures { class_map (λ l. l.now) result ≡ buffer_class effect.now }
 {

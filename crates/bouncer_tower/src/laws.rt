@@ -1,4 +1,4 @@
-//! That requests which are dropped, blanks and marks change nothing, and that each line is handed out once.
+//! Requests that are dropped, blanks and marks change nothing, and each line is handed out once.
 ghost use Rattle.std.specs.Prelude.{◌≡◌, ◌≤◌, ℕ, map};
 ghost use Rattle.machine_laws.specs.Runs.{History, all_effects};
 ghost use Rattle.wire_bytes.specs.declared.origin.Origin.{Origin};
@@ -10,9 +10,8 @@ ghost use Rattle.bouncer_tower.specs.Laws.{AddsItsHands, AreDifferent, AreInOrde
 ghost use Rattle.bouncer_tower.specs.Laws.{HandsOutLines, HaveDifferentNumbers, IgnoresBlanksAndMarks};
 ghost use Rattle.bouncer_tower.specs.Laws.{IgnoresDropped, KeepsNumbers};
 
-/// A request that is not the next of its origin changes neither the commands of the buffers nor the
-/// session in force, the lines for upstream or their claims, then or later: what follows it comes to the
-/// same as without it.
+/// A request that is not the next of its origin changes neither the commands of the buffers nor the session in force,
+/// the lines for upstream or their claims, then or later: what follows it has the same outcome as without it.
 pub fn a_dropped_request_changes_nothing()
     ensures plain { IgnoresDropped plain }
     ensures session { IgnoresDropped session }
@@ -30,9 +29,8 @@ pub fn a_blank_or_a_mark_changes_nothing()
         → IgnoresBlanksAndMarks (λ h. answers s h place body) }
 {}
 
-/// The claims that took effect have the numbers from 1 on, each once, and are of lines that were
-/// numbered. The lines that a body hands out are those of the claims that it adds; each is the line of
-/// its number, which it keeps.
+/// The claims that took effect have the numbers from 1 on, each once, and are for lines that were numbered. The lines
+/// that a body hands out are those of the claims that it adds; each is the line of its number, which it keeps.
 pub fn each_line_is_handed_once()
     ensures in_order { (s : Settings) (h : History TowerBody) → AreInOrder (claimed s h) }
     ensures once { (s : Settings) (h : History TowerBody) → AreDifferent (claimed s h) }

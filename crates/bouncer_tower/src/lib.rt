@@ -1,7 +1,7 @@
 //! The machine that the nodes of a bouncer host: buffers whose sessions with upstream follow one another, whose lines
-//! for upstream are numbered and claimed once, and whose requests take effect once.
-//! Stands under headline, chat_log, driver and bouncer_run, among others.
-//! Promises that the answers of a list of bodies are the definitions' of all layers together.
+//! for upstream are numbered and claimed once, and whose requests take effect once. Used by headline, chat_log, driver
+//! and bouncer_run, among others. Promises that the answers of a list of bodies are the definitions' of all layers
+//! together.
 #![tactic(auto)]
 
 mod answers;

@@ -1,4 +1,4 @@
-//! The tower tells each of its marks.
+//! The tower recognizes each of its marks.
 use crate::tower::{Tower, TowerBody};
 use machine_laws::Marking;
 use request_once::Body;

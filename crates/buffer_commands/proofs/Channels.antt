@@ -51,6 +51,6 @@ same_given : (v bytes : List ℕ) (n m : ℕ) → (let r : Result (List ℕ × �
 unfolding value_of
 same_given v bytes n m e = ap value_of e
 
--- a name that is read where a channel's stands is a channel's
+-- a name that is read as a channel's name is one
 pub channel_given : (input bytes v : List ℕ) (n : ℕ) → sized_bytes input ≡ Ok bytes → is_channel bytes ≡ true → name input ≡ Ok (v, n) → IsTrue (is_channel v)
 channel_given input bytes v n e h g = rw (same_given v bytes n (2 + length bytes) (sym g ∙ named_given input bytes e h)) h

@@ -1,4 +1,4 @@
--- The limits of a setup hold exactly where nothing is wrong with it.
+-- The limits of a setup hold exactly if nothing is wrong with it.
 use Rattle.std.proofs.Common.{◌≡◌, ℕ, ◌+◌, Bool, true, false, ◌&&◌, if◌then◌else◌, List, [], ◌∷◌, length, Option, Some, None, IsTrue, refl, sym, ap, ◌∙◌, arith}
 use Rattle.std.specs.Prelude.{is_none, nat_le, nat_lt}
 use Rattle.std.specs.List.{list_all}
@@ -41,7 +41,7 @@ limits_by_fault channels options =
     first_by (nat_lt 100 (length channels)) (order_fault 0 channels) (size_fault options) _ (nat_le (length channels) 100) (list_all is_channel channels && are_rising channels) (are_sizes options)
     (count_limit (length channels) _) (order_limits 0 channels) (size_limits options)
 
--- where nothing is wrong the limits hold
+-- if nothing is wrong the limits hold
 pub no_fault : (channels : List (List ℕ)) (options : Options) → fault_of channels options ≡ None → IsTrue (within_limits channels options)
 no_fault channels options e = sym (limits_by_fault channels options) ∙ ap (λ (o : Option SetupFault). is_none o) e
 

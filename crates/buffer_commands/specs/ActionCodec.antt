@@ -66,15 +66,15 @@ IfKind false A B = B
 abbrev pub IsMade : {X : Type 0} → (X → Type 0) → (X → Action) → Action → Type 0
 IsMade {X} fits make a = (x : X) × fits x × (make x ≡ a)
 
--- verb, name and text that a Say may have: the name and the text are within their limits
+-- verb, name and text of a Say: the name and the text are within their limits
 abbrev SaidFits : (Verb × List ℕ) × List ℕ → Type 0
 SaidFits p = (Unit {0} × IsTrue (is_name p.0.1)) × IsTrue (is_text p.1)
 
--- name and size that a SetBuffer may have, each within its limits
+-- name and size of a SetBuffer, each within its limits
 abbrev SetFits : List ℕ × ℕ → Type 0
 SetFits p = IsTrue (is_name p.0) × FitsSize p.1
 
--- what an action of a kind is made of
+-- the parts of an action of this kind
 abbrev MadeAs : ℕ → Action → Type 0
 MadeAs k a =
     IfKind (k == 1) (Attach None ≡ a)
@@ -110,7 +110,7 @@ made_as_its_kind ClearAll h = refl
 made_as_its_kind (SetBuffer n k) h = ((n, k), h, refl)
 made_as_its_kind (Pass p) h = (p, h, refl)
 
--- the kind decides what an action is made of
+-- the kind decides the parts of an action
 made_as : (k : ℕ) (a : Action) → FitsAction a × (action_kind a ≡ k) → MadeAs k a
 made_as k a h = subst (λ (n : ℕ). MadeAs n a) h.1 (made_as_its_kind a h.0)
 

@@ -23,19 +23,19 @@ use Rattle.buffer_commands.specs.declared.command.Command.TheVariants.{Client, U
 abbrev IsMade : {X : Type 0} → (X → Type 0) → (X → Command) → Command → Type 0
 IsMade {X} fits make c = (x : X) × fits x × (make x ≡ c)
 
--- origin, moment and action that a Client command may have, each within its limits
+-- origin, moment and action of a Client command, each within its limits
 abbrev ClientFits : (Origin × ℕ) × Action → Type 0
 ClientFits p = (FitsOrigin p.0.0 × FitsMoment p.0.1) × FitsAction p.1
 
--- moment and line that an Upstream command may have, each within its limits
+-- moment and line of an Upstream command, each within its limits
 abbrev UpstreamFits : ℕ × Parts → Type 0
 UpstreamFits p = FitsMoment p.0 × FitsLine p.1
 
--- node and floor that a NodeGone may have, each within its limits
+-- node and floor of a NodeGone, each within its limits
 abbrev GoneFits : ℕ × ℕ → Type 0
 GoneFits p = FitsNode p.0 × FitsNumber p.1
 
--- what a command of a kind is made of
+-- the parts of a command of this kind
 abbrev MadeAs : ℕ → Command → Type 0
 MadeAs k c =
     IfKind (k == 1) (IsMade ClientFits client_of c)
@@ -51,7 +51,7 @@ made_as_its_kind (NodeGone n floor) h = ((n, floor), h, refl)
 made_as_its_kind Up h = refl
 made_as_its_kind Down h = refl
 
--- the kind decides what a command is made of
+-- the kind decides the parts of a command
 made_as : (k : ℕ) (c : Command) → FitsCommand c × (command_kind c ≡ k) → MadeAs k c
 made_as k c h = subst (λ (n : ℕ). MadeAs n c) h.1 (made_as_its_kind c h.0)
 

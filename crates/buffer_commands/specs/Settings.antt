@@ -1,4 +1,4 @@
--- What a bouncer is set up with.
+-- The setup of a bouncer.
 use Rattle.std.specs.Prelude.{◌≡◌, ◌≤◌, IsTrue, Result, MatchResult, ℕ, ◌+◌, Bool, true, ◌&&◌, ◌||◌, if◌then◌else◌, nat_le, nat_lt, List, [], ◌∷◌, length, Option, Some, None, codes}
 use Rattle.std.specs.List.{list_all}
 use Rattle.irc_line.specs.Names.{is_channel}
@@ -8,10 +8,10 @@ use Rattle.buffer_commands.specs.declared.setup_fault.SetupFault.{SetupFault}
 use Rattle.buffer_commands.specs.declared.setup_fault.SetupFault.TheVariants.{TooManyChannels, NotAChannel, NotRising, ChannelSize, QuerySize, MostQueries}
 use Rattle.buffer_commands.specs.declared.setup.TheConstants.{MOST_CHANNELS, MOST_LINES, MOST_QUERIES}
 
--- what clauses see of a setup
+-- a setup as clauses see it
 pub record Settings : Type 0 where
   pub nick : List ℕ
-  -- the channels that stand at the start, in rising order of folded name
+  -- the channels that exist from the start, in rising order of folded name
   pub channels : List (List ℕ)
   pub channel_size : ℕ
   pub query_size : ℕ
@@ -20,7 +20,7 @@ pub record Settings : Type 0 where
   pub clears_channels : Bool
   pub clears_queries : Bool
   pub many_clients : Bool
-  -- in minutes, and 1,439 more
+  -- in minutes, with 1,439 added
   pub offset : ℕ
 
 -- 50 lines each, 50 queries, all options on, and no offset
@@ -36,7 +36,7 @@ default_options =
       offset = 1439;
     }
 
--- this nick, these channels, and all else by the options
+-- this nick, these channels, and everything else from the options
 abbrev pub settings_of : List ℕ → List (List ℕ) → Options → Settings
 settings_of nick channels options =
     record {
@@ -51,7 +51,7 @@ settings_of nick channels options =
       offset = options.offset;
     }
 
--- the nick `me`, the channel `#x`, and all else as it is by default
+-- the nick `me`, the channel `#x`, and the defaults
 abbrev pub plain : Settings
 plain = settings_of (codes "me") (codes "#x" ∷ []) default_options
 
@@ -81,15 +81,15 @@ pub record KeepsLimits (channels : List (List ℕ)) (options : Options) : Type 0
 abbrev pub Refuses : Result (Unit {0}) SetupFault → Option SetupFault → Type 0
 Refuses result fault = MatchResult result (λ _. fault ≡ None) (λ e. fault ≡ Some e)
 
--- what is wrong with so many channels
+-- what is wrong with this many channels
 abbrev pub count_fault : ℕ → Option SetupFault
 count_fault count = if nat_lt channel_limit count then Some TooManyChannels else None
 
--- not too many names, each a channel's, each before the next one in the order of folded names
+-- not too many names, each a channel's name, each before the next one in the order of folded names
 abbrev pub are_channels : List (List ℕ) → Bool
 are_channels channels = nat_le (length channels) channel_limit && (list_all is_channel channels && are_rising channels)
 
--- no more lines for a channel and for a query than one may keep, and at least one query and not too many
+-- neither a channel nor a query keeps more lines than allowed, and there are at least one query and not too many
 abbrev pub are_sizes : Options → Bool
 are_sizes options = nat_le options.channel_size size_limit && (nat_le options.query_size size_limit && (nat_le 1 options.most_queries && nat_le options.most_queries query_limit))
 
@@ -97,23 +97,24 @@ are_sizes options = nat_le options.channel_size size_limit && (nat_le options.qu
 abbrev pub within_limits : List (List ℕ) → Options → Bool
 within_limits channels options = are_channels channels && are_sizes options
 
--- what is wrong first with names of which the first stands at this place: a name that is no channel's, or one that does not come after the name before it
+-- the first fault of names of which the first is at this place: a name that is no channel's, or one that does not come
+-- after the name before it
 abbrev pub order_fault : ℕ → List (List ℕ) → Option SetupFault
 order_fault place [] = None
 order_fault place (c ∷ cs) = if is_channel c then (if is_below_all c cs then order_fault (place + 1) cs else Some (NotRising (place + 1))) else Some (NotAChannel place)
 
--- what is wrong first with the sizes
+-- the first fault of the sizes
 abbrev pub size_fault : Options → Option SetupFault
 size_fault options =
     if nat_lt size_limit options.channel_size
     then Some ChannelSize
     else (if nat_lt size_limit options.query_size then Some QuerySize else (if nat_lt options.most_queries 1 || nat_lt query_limit options.most_queries then Some MostQueries else None))
 
--- the first fault, or the second where there is no first
+-- the first fault, or the second if there is no first
 abbrev pub first_fault : Option SetupFault → Option SetupFault → Option SetupFault
 first_fault (Some fault) other = Some fault
 first_fault None other = other
 
--- what is wrong first: the number of channels, then the channels one by one, then the sizes
+-- the first fault: of the number of channels, then of the channels one by one, then of the sizes
 abbrev pub fault_of : List (List ℕ) → Options → Option SetupFault
 fault_of channels options = if nat_lt channel_limit (length channels) then Some TooManyChannels else first_fault (order_fault 0 channels) (size_fault options)

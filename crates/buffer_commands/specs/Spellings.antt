@@ -1,4 +1,4 @@
--- Actions and commands as bytes: a kind byte, and behind it what is of that kind.
+-- Actions and commands as bytes: a kind byte, followed by the fields of that kind.
 use Rattle.std.specs.Prelude.{ℕ, ◌≤◌, ◌==◌, if◌then◌else◌, List, [], ◌∷◌, ◌++◌, Some, None, IsTrue}
 use Rattle.std.specs.Int.{w16, to_be_bytes}
 use Rattle.irc_line.specs.Names.{is_name, is_channel, is_text}
@@ -22,7 +22,7 @@ abbrev pub verb_byte : Verb → ℕ
 verb_byte Privmsg = 0
 verb_byte Notice = 1
 
--- the verb of a byte: 0 is PRIVMSG, all else NOTICE
+-- the verb of a byte: 0 is PRIVMSG, any other NOTICE
 abbrev pub verb_of : ℕ → Verb
 verb_of byte = if byte == 0 then Privmsg else Notice
 
@@ -34,9 +34,9 @@ spelled_verb verb = verb_byte verb ∷ []
 unfoldable pub verb : Reading Verb
 verb = through verb_of (byte_within 0 1)
 
--- A channel's name: a name; one that is no channel's is refused as that field
+-- A channel's name: a name; one that is no channel's name is refused as that field
 
--- what may stand as a channel: a name that begins with #, &, + or !
+-- what may be a channel: a name that begins with #, &, + or !
 abbrev pub FitsChannel : List ℕ → Type 0
 FitsChannel c = IsTrue (is_channel c)
 
@@ -46,7 +46,7 @@ channel_name = only is_channel name
 
 -- A size of a buffer: two bytes
 
--- a size that two bytes hold; whether it is past 500 is for the buffers to say
+-- a size that fits into two bytes; whether it is past 500 is decided by the buffers
 abbrev pub FitsSize : ℕ → Type 0
 FitsSize n = n ≤ 65535
 
@@ -54,13 +54,13 @@ FitsSize n = n ≤ 65535
 unfoldable pub spelled_size : ℕ → List ℕ
 spelled_size n = to_be_bytes w16 n
 
--- the size at the front of an input: any two bytes are one
+-- the size at the front of an input: any two bytes are a size
 unfoldable pub buffer_size : Reading ℕ
 buffer_size = number_to w16 65535
 
 -- Actions
 
--- the kind byte of an action, 1 to 15; an Attach with a name has the last
+-- the kind byte of an action, 1 to 15; 15 is an Attach with a name
 abbrev pub action_kind : Action → ℕ
 action_kind (Attach None) = 1
 action_kind Leave = 2
@@ -100,7 +100,7 @@ action_body ClearAll = []
 action_body (SetBuffer n k) = sized n ++ spelled_size k
 action_body (Pass p) = spelled_line p
 
--- an action as bytes: its kind byte, and behind it what is of that kind
+-- an action as bytes: its kind byte, followed by the fields of that kind
 unfoldable pub spelled_action : Action → List ℕ
 spelled_action a = action_kind a ∷ action_body a
 
@@ -122,23 +122,23 @@ FitsAction ClearAll = Unit {0}
 FitsAction (SetBuffer n k) = IsTrue (is_name n) × FitsSize k
 FitsAction (Pass p) = FitsLine p
 
--- a Say, by its parts as they are read: verb, name, text
+-- a Say, from its parts as they are read: verb, name, text
 abbrev pub say_of : (Verb × List ℕ) × List ℕ → Action
 say_of p = Say p.0.0 p.0.1 p.1
 
--- a Say, behind the kind byte
+-- a Say, after the kind byte
 abbrev pub say_taken : Reading Action
 say_taken = through say_of (both (both verb name) text)
 
--- a SetBuffer, by its parts as they are read: name, size
+-- a SetBuffer, from its parts as they are read: name, size
 abbrev pub set_of : List ℕ × ℕ → Action
 set_of p = SetBuffer p.0 p.1
 
--- a SetBuffer, behind the kind byte
+-- a SetBuffer, after the kind byte
 abbrev pub set_buffer_taken : Reading Action
 set_buffer_taken = through set_of (both name buffer_size)
 
--- a Pass, behind the kind byte: the line that goes upstream as it is
+-- a Pass, after the kind byte: the line that goes upstream as it is
 abbrev pub pass_taken : Reading Action
 pass_taken = through Pass line
 
@@ -146,7 +146,7 @@ pass_taken = through Pass line
 abbrev pub attach_as : List ℕ → Action
 attach_as id = Attach (Some id)
 
--- what may stand behind each kind byte
+-- what may follow each kind byte
 abbrev pub action_cases : List (ℕ × Reading Action)
 action_cases =
     (1, done (Attach None))
@@ -166,15 +166,16 @@ action_cases =
     ∷ (15, through attach_as name)
     ∷ []
 
--- an action wants memory for what stands whole behind its kind byte
+-- a Say needs memory for its name and its text, once each is there whole
 abbrev pub say_wants : Wants
 say_wants = wants_both (wants_behind verb (once_whole name)) (both verb name) (once_whole text)
 
--- a SetBuffer wants memory for its name, once that stands whole
+-- a SetBuffer needs memory for its name, once all of it is there
 abbrev pub set_buffer_wants : Wants
 set_buffer_wants = once_whole name
 
--- which inputs may want memory for an action: those of a kind that has a name, a text or a line, once one stands whole
+-- which inputs may need memory for an action: those of a kind that has a name, a text or a line, once all of it is
+-- there
 abbrev pub action_wants : Wants
 action_wants =
     wants_choice (
@@ -226,7 +227,7 @@ command_body (NodeGone n floor) = spelled_node n ++ spelled_number floor
 command_body Up = []
 command_body Down = []
 
--- a command as bytes: its kind byte, and behind it what is of that kind
+-- a command as bytes: its kind byte, followed by the fields of that kind
 unfoldable pub spelled_command : Command → List ℕ
 spelled_command c = command_kind c ∷ command_body c
 
@@ -238,43 +239,44 @@ FitsCommand (NodeGone n floor) = FitsNode n × FitsNumber floor
 FitsCommand Up = Unit {0}
 FitsCommand Down = Unit {0}
 
--- a Client command, by its parts as they are read: origin, moment, action
+-- a Client command, from its parts as they are read: origin, moment, action
 abbrev pub client_of : (Origin × ℕ) × Action → Command
 client_of p = Client p.0.0 p.0.1 p.1
 
--- an Upstream command, by its parts as they are read: moment, line
+-- an Upstream command, from its parts as they are read: moment, line
 abbrev pub upstream_of : ℕ × Parts → Command
 upstream_of p = Upstream p.0 p.1
 
--- a Client command, behind the kind byte
+-- a Client command, after the kind byte
 abbrev pub client_taken : Reading Command
 client_taken = through client_of (both (both origin moment) action)
 
--- an Upstream command, behind the kind byte
+-- an Upstream command, after the kind byte
 abbrev pub upstream_taken : Reading Command
 upstream_taken = through upstream_of (both moment line)
 
--- a NodeGone, by its parts as they are read: node, floor
+-- a NodeGone, from its parts as they are read: node, floor
 abbrev pub gone_of : ℕ × ℕ → Command
 gone_of p = NodeGone p.0 p.1
 
--- a NodeGone, behind the kind byte
+-- a NodeGone, after the kind byte
 abbrev pub gone_taken : Reading Command
 gone_taken = through gone_of (both node number)
 
--- what may stand behind each kind byte
+-- what may follow each kind byte
 abbrev pub command_cases : List (ℕ × Reading Command)
 command_cases = (1, client_taken) ∷ (2, upstream_taken) ∷ (3, gone_taken) ∷ (4, done Up) ∷ (5, done Down) ∷ []
 
--- a command wants memory for its action or its line, behind what stands before these
+-- a Client command needs memory for its action, after the origin and the moment
 abbrev pub client_wants : Wants
 client_wants = wants_behind (both origin moment) action_wants
 
--- an Upstream command wants memory for its line, behind the moment
+-- an Upstream command needs memory for its line, after the moment
 abbrev pub upstream_wants : Wants
 upstream_wants = wants_behind moment (once_whole line)
 
--- which inputs may want memory for a command: those of a client's or of upstream's; other commands are held in place
+-- which inputs may need memory for a command: those of a Client or an Upstream command; other commands are held in
+-- place
 abbrev pub command_wants : Wants
 command_wants = wants_choice ((1, client_wants) ∷ (2, upstream_wants) ∷ [])
 

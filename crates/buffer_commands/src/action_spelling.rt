@@ -1,4 +1,4 @@
-//! How actions are spelled: a kind byte, and behind it what is of that kind.
+//! Actions as bytes: a kind byte, followed by the fields of that kind.
 ghost use Rattle.std.specs.Prelude.{◌≡◌, ◌≢◌, ◌≤◌, drop, length, vec_capacity, IfOk, IfErr, IsTrue, OnErr, Ok, Err};
 ghost use Rattle.irc_line.specs.Lines.{LacksRoom};
 ghost use Rattle.irc_line.specs.Names.{is_name, is_text};
@@ -47,10 +47,9 @@ impl Action {
     }
 }
 
-/// Attach without a name is 1, Leave 2, Say 3 with verb, target and text, Join 4, Part 5, Detach 6 and Reattach 7
-/// with their channel, Play 8 and Clear 9 with their target, ClearChannels 10, ClearQueries 11,
-/// ClearAll 12, SetBuffer 13 with its target and size, Pass 14 with its line, and Attach with a name
-/// 15.
+/// Attach without a name is 1, Leave 2, Say 3 with verb, target and text, Join 4, Part 5, Detach 6 and Reattach 7 with
+/// their channel, Play 8 and Clear 9 with their target, ClearChannels 10, ClearQueries 11, ClearAll 12, SetBuffer 13
+/// with its target and size, Pass 14 with its line, and Attach with a name 15.
 impl Wire for Action {
     ghost use Rattle.buffer_commands.specs.Spellings.{spelled_action, FitsAction, action, action_wants};
     ghost use Rattle.buffer_commands.specs.ActionCodec.{action_is_codec};
@@ -140,7 +139,7 @@ impl Wire for Action {
     ghost is_codec = { action_is_codec };
 }
 
-/// Appends what a Say has, or leaves the items as they were.
+/// Appends the fields of a Say, or leaves the items as they were.
 fn put_said(out: &mut Vec<u8>, verb: Verb, target: &Name, text: &Text) -> Result<(), AllocError>
     requires target { IsTrue (is_name target.now) }
     requires text { IsTrue (is_text text.now) }
@@ -154,7 +153,7 @@ fn put_said(out: &mut Vec<u8>, verb: Verb, target: &Name, text: &Text) -> Result
     undo(out, len, outcome)
 }
 
-/// A Say behind its kind byte.
+/// A Say after its kind byte.
 #[tactic(auto, using(wire_bytes::proofs::Steps::composed))]
 fn take_say(alloc: Global, input: &[u8]) -> Result<(Action, usize), WireFault>
     requires { 1 ≤ length input.now }
@@ -167,7 +166,7 @@ fn take_say(alloc: Global, input: &[u8]) -> Result<(Action, usize), WireFault>
     Ok((Action::Say(verb, target, text), end))
 }
 
-/// A SetBuffer behind its kind byte.
+/// A SetBuffer after its kind byte.
 #[tactic(auto, using(wire_bytes::proofs::Steps::composed))]
 fn take_set_buffer(alloc: Global, input: &[u8]) -> Result<(Action, usize), WireFault>
     requires { 1 ≤ length input.now }
@@ -181,7 +180,7 @@ fn take_set_buffer(alloc: Global, input: &[u8]) -> Result<(Action, usize), WireF
     Ok((Action::SetBuffer(target, size), end))
 }
 
-/// A Pass behind its kind byte.
+/// A Pass after its kind byte.
 #[tactic(auto, using(wire_bytes::proofs::Steps::composed))]
 fn take_pass(alloc: Global, input: &[u8]) -> Result<(Action, usize), WireFault>
     requires { 1 ≤ length input.now }

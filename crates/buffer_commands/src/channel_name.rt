@@ -51,7 +51,7 @@ impl Copied for ChannelName {
     }
 }
 
-/// As a name; one that is no channel's is refused as that field.
+/// Written like any name; a name that is no channel's is refused as that field.
 impl Wire for ChannelName {
     ghost use Rattle.wire_bytes.specs.Contents.{sized};
     ghost use Rattle.buffer_commands.specs.Spellings.{FitsChannel, channel_name};
@@ -72,7 +72,8 @@ impl Wire for ChannelName {
     }
 
     fn take(alloc: Global, input: &[u8]) -> Result<(Self, usize), WireFault> {
-        // The bytes are judged before a name is made of them: want of memory hides no fault.
+        // The bytes are checked before a name is made of them, so that running out of memory hides
+        // no fault.
         if !is_channel_name(take_sized(input)?) {
             return Err(WireFault::Bad(0));
         }

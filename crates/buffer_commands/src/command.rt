@@ -12,42 +12,42 @@ pub enum Verb {
     Notice,
 }
 
-/// What a client asks for.
+/// What a client requests.
 #[derive(Drop)]
 pub enum Action {
-    /// That the client is shown what comes; one with a name is shown what the name has not seen.
+    /// The client is shown what comes; one with a name is first shown what the name has not seen.
     Attach(Option<Name>),
     Leave,
     /// A message to a channel or a nick.
     Say(Verb, Name, Text),
-    /// That a channel is joined; a detached one is attached again.
+    /// Join a channel; a detached one is reattached.
     Join(ChannelName),
-    /// That a channel is left; one that is not joined is let go with what is kept of it.
+    /// Leave a channel; one that is not joined is dropped with what is kept of it.
     Part(ChannelName),
-    /// That a channel is shown no more, and kept for later.
+    /// Show the channel no longer, but keep its lines for later.
     Detach(ChannelName),
-    /// That a detached channel is shown again.
+    /// Show a detached channel again.
     Reattach(ChannelName),
-    /// What is kept of a target.
+    /// Play back what is kept of a target.
     Play(Name),
-    /// That all that is kept of a target is let go.
+    /// Remove all that is kept of a target.
     Clear(Name),
-    /// That all that is kept of the channels is let go.
+    /// Remove all that is kept of the channels.
     ClearChannels,
-    /// That all that is kept of the queries is let go.
+    /// Remove all that is kept of the queries.
     ClearQueries,
-    /// That all that is kept is let go.
+    /// Remove all that is kept.
     ClearAll,
-    /// That a target keeps so many lines from now on.
+    /// Let a target keep at most this many lines from now on.
     SetBuffer(Name, BufferSize),
-    /// A line that goes upstream as it is.
+    /// Send this line upstream as it is.
     Pass(WireLine),
 }
 
 /// What comes to the buffers.
 #[derive(Drop)]
 pub enum Command {
-    /// What a client asks for at a moment.
+    /// A request of a client at a moment.
     Client(Origin, Moment, Action),
     /// A line that came from upstream at a moment.
     Upstream(Moment, WireLine),

@@ -1,4 +1,4 @@
-//! How commands are spelled: a kind byte, and behind it what is of that kind.
+//! Commands as bytes: a kind byte, followed by the fields of that kind.
 ghost use Rattle.std.specs.Prelude.{◌≡◌, ◌≢◌, ◌≤◌, length, IfOk, IfErr, Ok, Err};
 ghost use Rattle.buffer_commands.specs.Spellings.{FitsCommand};
 

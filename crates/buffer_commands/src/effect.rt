@@ -10,7 +10,7 @@ pub enum Effect {
     Close(Origin),
     /// The client is shown a line.
     Show(Origin, Shown),
-    /// A line goes upstream, which the client asked for.
+    /// A line goes upstream that the client asked for.
     Send(Origin, Line),
     /// A line goes upstream that joins a channel again.
     Rejoin(Line),

@@ -5,7 +5,7 @@ ghost use Rattle.wire_bytes.specs.Fields.{appended};
 use std::alloc::AllocError;
 use wire_bytes::{Wire, undo};
 
-/// Appends one value behind another, or leaves the items as they were.
+/// Appends one value after another, or leaves the items as they were.
 pub fn put_two<A: Wire, B: Wire>(out: &mut Vec<u8>, first: &A, second: &B) -> Result<(), AllocError>
     requires first { A.fits first.now }
     requires second { B.fits second.now }
@@ -21,7 +21,7 @@ pub fn put_two<A: Wire, B: Wire>(out: &mut Vec<u8>, first: &A, second: &B) -> Re
     undo(out, len, outcome)
 }
 
-/// Appends a kind byte and what is of that kind, or leaves the items as they were.
+/// Appends a kind byte and the field of that kind, or leaves the items as they were.
 pub fn put_kind<T: Wire>(out: &mut Vec<u8>, kind: u8, body: &T) -> Result<(), AllocError>
     requires { T.fits body.now }
     ensures items { out.new.items ≡ appended result out.old.items (kind ∷ T.spelled body.now) }

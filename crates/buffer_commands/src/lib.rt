@@ -1,7 +1,6 @@
 //! What comes to the buffers of a bouncer and what they bring about: commands and their bytes,
-//! effects, and the setup.
-//! Stands under buffer_machine, client_gate and driver, among others.
-//! Promises that actions and commands have one spelling each, and that a setup keeps its limits.
+//! effects, and the setup. Used by buffer_machine, client_gate and driver, among others. Promises
+//! that actions and commands have one spelling each, and that a setup keeps its limits.
 #![tactic(auto)]
 
 mod action_spelling;

@@ -1,13 +1,13 @@
 use buffer_lines::Offset;
 
-/// What of a setup may be left as it is by default.
+/// The parts of a setup that have defaults.
 #[derive(Clone, Copy, Debug, PartialEq, Eq)]
 pub struct Options {
     /// How many lines a channel keeps, at most 500.
     pub channel_size: u16,
     /// How many lines a query keeps, at most 500.
     pub query_size: u16,
-    /// How many queries there are at the most, 1 to 50.
+    /// How many queries there may be, 1 to 50.
     pub most_queries: u8,
     /// Whether playing a channel empties it.
     pub clears_channels: bool,
@@ -15,7 +15,7 @@ pub struct Options {
     pub clears_queries: bool,
     /// Whether more than one client may be attached.
     pub many_clients: bool,
-    /// By how much the times of played lines are ahead of UTC.
+    /// How far the times of played lines are ahead of UTC.
     pub offset: Offset,
 }
 

@@ -13,8 +13,8 @@ use std::alloc::{AllocError, Global};
 use std::marker::Model;
 use wire_bytes::{Copied, copied_all};
 
-/// The most channels that may stand at the start.
-// each is joined at once where a session begins, and many networks allow no more
+/// The most channels that may exist from the start.
+// all are joined at once when a session begins, and many networks allow no more
 pub const MOST_CHANNELS: usize = 100;
 
 /// The most lines that a channel or a query may keep.
@@ -25,14 +25,14 @@ pub const MOST_LINES: u16 = 500;
 // anybody on the network can begin one, and each is held in memory
 pub const MOST_QUERIES: u8 = 50;
 
-/// These limits by number, as the contract of a function that does nothing.
+/// These limits as numbers, as the contract of a function that does nothing.
 pub fn limits_of_setups()
     ensures channels { channel_limit ≡ 100 }
     ensures lines { size_limit ≡ 500 }
     ensures queries { query_limit ≡ 50 }
 {}
 
-/// What a bouncer is set up with.
+/// The setup of a bouncer.
 #[derive(Drop)]
 pub struct Setup {
     nick: Name,
@@ -51,9 +51,9 @@ impl Model for Setup {
 }
 
 impl Setup {
-    /// The setup of a nick and the channels that stand at the start, which are to be in rising order of
-    /// folded name. Of several faults the first one is told: of the number of channels, then of the
-    /// channels one by one, then of the sizes in the order of [`Options`].
+    /// The setup of a nick and the channels that exist from the start, which must be in rising order of folded name.
+    /// The first fault is returned: of the number of channels, then of the channels one by one, then of the sizes in
+    /// the order of [`Options`].
     pub fn new(nick: Name, channels: Vec<Name>, options: Options) -> Result<Setup, SetupFault>
         ensures limits { is_ok result ≡ within_limits channels.items options }
         ensures ok { IfOk result (λ s. s ≡ settings_of nick channels.items options) }
@@ -63,7 +63,7 @@ impl Setup {
         Ok(Setup::within_limits(nick, channels, options))
     }
 
-    /// The setup whose limits hold.
+    /// The setup, once its limits hold.
     fn within_limits(nick: Name, channels: Vec<Name>, options: Options) -> Setup
         requires { IsTrue (within_limits channels.items options) }
         ensures { result ≡ settings_of nick channels.items options }
@@ -75,7 +75,7 @@ impl Setup {
         }
     }
 
-    /// The nick `me`, the channel `#x`, and all else as it is by default.
+    /// The nick `me`, the channel `#x`, and the defaults.
     #[tactic(auto, unfolding(irc_line::specs::Names::is_name, irc_line::specs::Names::is_channel))]
     pub fn plain(alloc: Global) -> Result<Setup, AllocError>
         ensures { IfOk result (λ s. s ≡ plain) }
@@ -95,7 +95,7 @@ impl Setup {
         &self.nick
     }
 
-    /// The channels that stand at the start, in rising order of folded name.
+    /// The channels that exist from the start, in rising order of folded name.
     pub fn channels(&self) -> &[Name]
         ensures value { result.now ≡ self.now.channels }
         ensures rising { IsTrue (are_rising self.now.channels) }
@@ -121,7 +121,7 @@ impl Setup {
         self.options.query_size as usize
     }
 
-    /// How many queries there are at the most.
+    /// How many queries there may be.
     pub fn most_queries(&self) -> usize
         ensures value { result ≡ self.now.most_queries }
         ensures least { 1 ≤ self.now.most_queries }
@@ -158,7 +158,7 @@ impl Setup {
     }
 }
 
-/// Refuses what is wrong first.
+/// Refuses the first fault.
 fn check(channels: &[Name], options: &Options) -> Result<(), SetupFault>
     ensures { Refuses result (fault_of channels.now options.now) }
 {
@@ -202,7 +202,7 @@ fn rises_at(names: &[Name], place: usize) -> bool
     next == names.len() || is_name_below(names[place].as_bytes(), names[next].as_bytes())
 }
 
-/// Refuses the first size that is out of its limits.
+/// Refuses the first size that is outside its limits.
 fn check_sizes(options: &Options) -> Result<(), SetupFault>
     ensures { Refuses result (size_fault options.now) }
 {
@@ -218,7 +218,7 @@ fn check_sizes(options: &Options) -> Result<(), SetupFault>
     Ok(())
 }
 
-/// The name of bytes that are one.
+/// The name of bytes that are a name.
 fn named(alloc: Global, bytes: &[u8]) -> Result<Name, AllocError>
     requires { IsTrue (is_name bytes.now) }
     ensures { IfOk result (λ n. n ≡ bytes.now) }

@@ -1,12 +1,12 @@
 use thiserror::Error;
 
-/// Why no bouncer is set up so. Of several faults the one that is named first here is told, and of
-/// two names the first one's.
+/// Why a setup is refused. If there are several faults, the first in this order is reported, and of
+/// two faulty names the first.
 #[derive(Clone, Copy, Debug, Drop, PartialEq, Eq, Error)]
 pub enum SetupFault {
     #[error("there are more than 100 channels")]
     TooManyChannels,
-    /// The name at this place, from 0, is no channel's.
+    /// The name at this place, from 0, is no channel's name.
     #[error("name {0} is no channel's")]
     NotAChannel(usize),
     /// The folded name at this place, from 0, does not come after the one before it.

@@ -66,7 +66,7 @@ impl Copied for WireLine {
     }
 }
 
-/// A line, as any other.
+/// Written like any line.
 impl Wire for WireLine {
     ghost use Rattle.wire_bytes.specs.Contents.{spelled_line, FitsLine, line};
     ghost use Rattle.wire_bytes.specs.Wants.{once_whole};

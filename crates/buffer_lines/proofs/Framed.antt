@@ -16,7 +16,7 @@ pub framed_some : (offset : ℕ) (target : List ℕ) (ks : List (ℕ × Parts)) 
 framed_some offset target [] h = absurd (h refl)
 framed_some offset target (k ∷ ks) h = ap (λ xs. spelling (frame target (codes "Buffer Playback...")) ∷ xs) (map_shown offset (frame target (codes "Playback Complete.")) (k ∷ ks))
 
--- what is shown of two lists behind so many older lines
+-- what is shown of two lists after this many older lines
 shown_two : (offset older : ℕ) (xs ys : List (ℕ × Parts))
     → map (λ k. spelling (timed offset k)) (drop older (xs ++ ys)) ≡ map (λ k. spelling (timed offset k)) (drop (min older (length xs)) xs) ++ map (λ k. spelling (timed offset k)) (drop (older - min older (length xs)) ys)
 shown_two offset older [] ys =
@@ -31,17 +31,17 @@ shown_two offset (suc older) (x ∷ xs) ys =
     let f : suc older - suc (min older (length xs)) ≡ older - min older (length xs) = omega arith in
     rw (e, f) (shown_two offset older xs ys)
 
--- what is appended of two lists behind so many older lines is what is shown of both
+-- what is appended for two lists after this many older lines is what is shown of both
 pub shown_behind : (offset older cut : ℕ) (before xs ys : List (ℕ × Parts)) (all : List (List ℕ)) → cut ≡ min older (length xs) → xs ++ ys ≡ before
     → (all ++ map (λ k. spelling (timed offset k)) (drop cut xs)) ++ map (λ k. spelling (timed offset k)) (drop (older - cut) ys) ≡ all ++ map (λ k. spelling (timed offset k)) (drop older before)
 shown_behind offset older cut before xs ys all e f =
     rw (e, ← f, shown_two offset older xs ys) (append_assoc all _ _)
 
--- all that is left behind so many
+-- all but the first n items
 pub rest_of : {A : Type 0} (n : ℕ) (xs : List A) → take (length xs - n) (drop n xs) ≡ drop n xs
 rest_of n xs = rw (← length-drop n xs) (take-length (drop n xs))
 
--- what is shown of one line more
+-- what is shown of one more line
 pub shown_next : (offset : ℕ) (ks : List (ℕ × Parts)) (i : ℕ) (k : ℕ × Parts) → i < length ks → k ≡ get_or ks i k → shown_timed offset (take (i + 1) ks) ≡ shown_timed offset (take i ks) ++ spelling (timed offset k) ∷ []
 shown_next offset ks i k h is =
     let next : i + 1 ≡ suc i = omega arith in

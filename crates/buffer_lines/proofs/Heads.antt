@@ -1,4 +1,4 @@
--- How lines of two parameters are spelled where the second has a colon before it.
+-- How lines of two parameters are spelled whose second has a colon before it.
 use Rattle.std.proofs.Common.{◌≡◌, ℕ, ◌/◌, ◌%◌, length, Bool, true, false, ◌||◌, List, [], ◌∷◌, ◌++◌, refl, append_assoc}
 use Rattle.std.specs.Prelude.{Option, ◌==◌}
 use Rattle.std.specs.List.{list_any}
@@ -27,7 +27,7 @@ pub spelling_colon : (prefix : Option (List ℕ)) (command target text : List �
 unfolding spelling
 spelling_colon prefix command target text h = rw h (simp append_assoc)
 
--- a time has a space at its end
+-- a time ends with a space
 time_space : (second : ℕ) (text : List ℕ) → list_any (λ b. b == 32) (stamp second ++ text) ≡ true
 time_space second text =
     list_any-here (λ b. b == 32) (91 ∷ (two_digits (second / 3600) ++ (58 ∷ two_digits (second / 60 % 60)) ++ (58 ∷ two_digits (second % 60)) ++ 93 ∷ [])) text 32 refl
@@ -43,7 +43,7 @@ spelling_timed offset k =
     spelling_colon (k.1.prefix) (k.1.command) (parameter 0 (k.1)) (stamped offset k.0 (parameter 1 (k.1)))
     (colon_space (k.1.command) (stamped offset k.0 (parameter 1 (k.1))) (stamped_space_by offset k.0 (parameter 1 (k.1)) (begins_with (parameter 1 (k.1)) action_mark) refl))
 
--- a line with its time behind other bytes
+-- a played line appended to other bytes
 pub played_behind : (offset : ℕ) (k : ℕ × Parts) (out : List ℕ) → out ++ spelling (timed offset k) ≡ (out ++ head (k.1.prefix) (k.1.command) (parameter 0 (k.1))) ++ stamped offset k.0 (parameter 1 (k.1))
 played_behind offset k out =
     rw (spelling_timed offset k) (rw (append_assoc out (head (k.1.prefix) (k.1.command) (parameter 0 (k.1))) (stamped offset k.0 (parameter 1 (k.1)))) refl)

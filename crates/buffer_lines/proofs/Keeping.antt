@@ -18,7 +18,7 @@ false_from false h = refl
 pub keep_last-nil : {K : Type 0} (n : ℕ) → keep_last {X = K} n [] ≡ []
 keep_last-nil {K} n = drop_all {X = K} (0 - n) [] (omega arith)
 
--- one more at the end
+-- one more line at the end
 keep_last-more_by : {K : Type 0} (t n : ℕ) (xs : List K) (k : K) (b : Bool) → nat_lt t n ≡ b → keep_last (n - (t + 1)) xs ++ if_kept b (Some k) ≡ keep_last (n - t) (xs ++ k ∷ [])
 keep_last-more_by t n xs k true e =
     let lt = lt_of t n e in
@@ -33,7 +33,7 @@ keep_last-more_by t n xs k false e =
 keep_last-more : {K : Type 0} (t n : ℕ) (xs : List K) (k : K) → keep_last (n - (t + 1)) xs ++ if_kept (nat_lt t n) (Some k) ≡ keep_last (n - t) (xs ++ k ∷ [])
 keep_last-more t n xs k = keep_last-more_by t n xs k (nat_lt t n) refl
 
--- one line more of the earlier ones: it stays where it stayed, the target is not emptied, and there is room
+-- one more of the earlier lines: it is kept where it was kept, the target is not emptied, and there is room
 step : {K : Type 0} (s e : Bool) (t n : ℕ) (xs : List K) (o : Option K) → (s ≡ false → is_some o ≡ true → xs ≡ [])
     → (if e then [] else keep_last (n - (t + one_if (is_some o))) xs) ++ if_kept (s && not e && nat_lt t n) o
     ≡ (if e then [] else keep_last (n - t) (xs ++ if_kept s o))
@@ -55,7 +55,7 @@ same_nothing : {K : Type 0} (b : Bool) → ◌≡◌ {A = List K} [] (if b then 
 same_nothing true = refl
 same_nothing false = refl
 
--- the last command's own line
+-- the line of the last command itself
 last_step : {K : Type 0} (e : Bool) (n : ℕ) (xs : List K) (o : Option K) → (if e then [] else keep_last (n - one_if (is_some o)) xs) ++ if_kept (nat_lt 0 n) o
     ≡ keep_last n ((if e then [] else xs) ++ if_kept true o)
 last_step true n xs None = sym (keep_last-nil n)

@@ -1,11 +1,11 @@
--- What the parts of a text are, one by one and all together.
+-- The parts of a text, one by one and all together.
 use Rattle.std.proofs.Common.{◌≡◌, ℕ, zero, suc, ◌+◌, ◌<◌, ◌≤◌, List, [], ◌∷◌, ◌++◌, length, map, refl, sym, ap, ◌∙◌, arith, take, drop, append-nil, drop-drop, slice_index_or, ◌-◌}
 use Rattle.std.proofs.Math.Seq.{take-suc}
 use Rattle.std.specs.List.{concat}
 use Rattle.std.proofs.lemmas.List.{append_assoc, length-append}
 use Rattle.buffer_lines.specs.Parts.{parts, total}
 
--- what stands in front of a list
+-- the front of a list
 front_of : (xs ys : List ℕ) → take (length xs) (xs ++ ys) ≡ xs
 front_of [] ys = refl
 front_of (x ∷ xs) ys = ap (λ (zs : List ℕ). x ∷ zs) (front_of xs ys)
@@ -14,18 +14,18 @@ rest_of : (xs ys : List ℕ) → drop (length xs) (xs ++ ys) ≡ ys
 rest_of [] ys = refl
 rest_of (x ∷ xs) ys = rest_of xs ys
 
--- lists one behind the other, taken apart where they end
+-- joined lists, cut where each ends, are these lists again
 pub parts_of : (xss : List (List ℕ)) → parts (concat xss) (map length xss) ≡ xss
 parts_of [] = refl
 parts_of (xs ∷ xss) =
     rw (front_of xs (concat xss), rest_of xs (concat xss)) (ap (λ (yss : List (List ℕ)). xs ∷ yss) (parts_of xss))
 
--- they are as long together as all
+-- their lengths add up to the whole length
 pub total_of : (xss : List (List ℕ)) → total (map length xss) ≡ length (concat xss)
 total_of [] = refl
 total_of (xs ∷ xss) = ap (λ (n : ℕ). length xs + n) (total_of xss) ∙ sym (length-append xs (concat xss))
 
--- one list more
+-- one more list
 pub concat_push : (xss : List (List ℕ)) (xs : List ℕ) → concat (xss ++ xs ∷ []) ≡ concat xss ++ xs
 concat_push [] xs = append-nil xs
 concat_push (ys ∷ xss) xs =
@@ -35,7 +35,7 @@ pub lengths_push : (xss : List (List ℕ)) (xs : List ℕ) → map length (xss +
 lengths_push [] xs = refl
 lengths_push (ys ∷ xss) xs = ap (λ (ns : List ℕ). length ys ∷ ns) (lengths_push xss xs)
 
--- one part more
+-- one more part
 pub parts_push : (text lengths : List ℕ) (n : ℕ) → parts text (lengths ++ n ∷ []) ≡ parts text lengths ++ take n (drop (total lengths) text) ∷ []
 parts_push text [] n = refl
 parts_push text (m ∷ lengths) n =
@@ -46,7 +46,7 @@ pub total_push : (lengths : List ℕ) (n : ℕ) → total (lengths ++ n ∷ []) 
 total_push [] n = omega arith
 total_push (m ∷ lengths) n = omega (arith, total_push lengths n)
 
--- the first ones are not longer than all
+-- the first parts are not longer than all
 pub total_front : (i : ℕ) (lengths : List ℕ) → total (take i lengths) ≤ total lengths
 total_front zero lengths = omega arith
 total_front (suc i) [] = omega arith

@@ -1,4 +1,4 @@
--- Where the time stands in a text.
+-- Where the time is in a text.
 use Rattle.std.proofs.Common.{◌≡◌, ℕ, true, false, List, ◌++◌, drop, refl}
 use Rattle.irc_line.specs.Names.{action_mark, begins_with}
 use Rattle.buffer_lines.specs.Stamps.{stamp, second_of_day, stamped}

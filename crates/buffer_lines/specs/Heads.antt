@@ -1,4 +1,4 @@
--- What stands before the text of a line of two parameters.
+-- What comes before the text of a line of two parameters.
 use Rattle.std.specs.Prelude.{ℕ, List, [], ◌∷◌, ◌++◌, Option}
 use Rattle.irc_line.specs.Lines.{spelled_prefix}
 

@@ -1,4 +1,4 @@
--- The parts of a text, one behind the other.
+-- The parts of a text, one after the other.
 use Rattle.std.specs.Prelude.{ℕ, ◌+◌, List, [], ◌∷◌, drop, take}
 
 -- the parts of these lengths
@@ -6,7 +6,7 @@ abbrev pub parts : List ℕ → List ℕ → List (List ℕ)
 parts text [] = []
 parts text (n ∷ lengths) = take n text ∷ parts (drop n text) lengths
 
--- how long they are together
+-- their total length
 abbrev pub total : List ℕ → ℕ
 total [] = 0
 total (n ∷ lengths) = n + total lengths

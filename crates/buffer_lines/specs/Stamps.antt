@@ -1,4 +1,4 @@
--- The time of day of a kept line, and where it stands in the line.
+-- The time of day of a kept line, and where it is in the line.
 use Rattle.std.specs.Prelude.{ℕ, ◌+◌, ◌*◌, ◌/◌, ◌%◌, if◌then◌else◌, List, [], ◌∷◌, ◌++◌, drop, codes, map, refl}
 use Rattle.std.specs.Coded.{Coded, code_by, coded×, coded_list, coded_ℕ}
 use Rattle.circular_buffer.specs.Buffer.{keep_last}
@@ -14,11 +14,11 @@ abbrev pub stamp : ℕ → List ℕ
 stamp second =
     91 ∷ (two_digits (second / 3600) ++ (58 ∷ two_digits (second / 60 % 60)) ++ (58 ∷ two_digits (second % 60)) ++ (93 ∷ 32 ∷ []))
 
--- the second of the day at a moment, with an offset that is given as its minutes and 1,439 more
+-- the second of the day at a moment; the offset is given in minutes, with 1,439 added
 abbrev pub second_of_day : ℕ → ℕ → ℕ
 second_of_day offset moment = (moment + 60 * (offset + 1)) % 86400
 
--- the text with the time before it, in an ACTION behind its mark
+-- the text with the time before it, in an ACTION after its mark
 unfoldable pub stamped : ℕ → ℕ → List ℕ → List ℕ
 stamped offset moment text =
     if begins_with text action_mark
@@ -30,7 +30,7 @@ unfoldable pub timed : ℕ → ℕ × Parts → Parts
 timed offset k =
     record (k.1) { parameters = parameter 0 (k.1) ∷ stamped offset k.0 (parameter 1 (k.1)) ∷ [] }
 
--- a line before or behind a playback
+-- a line before or after a playback
 abbrev pub frame : List ℕ → List ℕ → Parts
 frame target text = line_of (codes "***!bouncer@local") (codes "PRIVMSG") (target ∷ text ∷ [])
 
@@ -57,11 +57,11 @@ line_code = coded× coded_ℕ parts_code
 abbrev pub ring_code : Coded Ring
 ring_code = code_by (List (ℕ × Parts) × ℕ) (coded× (coded_list line_code) coded_ℕ) (λ r. (r.lines, r.size)) (λ p. ring p.0 p.1) (λ _. refl)
 
--- a ring of another size, of which the last lines are kept
+-- a ring of another size, which keeps its last lines
 abbrev pub of_size : ℕ → Ring → Ring
 of_size size r = ring (keep_last size r.lines) size
 
--- a ring with one more line, of which the last ones are kept
+-- a ring with one more line, which keeps its last lines
 abbrev pub with_line : ℕ × Parts → Ring → Ring
 with_line line r = ring (keep_last r.size (r.lines ++ line ∷ [])) r.size
 

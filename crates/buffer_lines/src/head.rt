@@ -1,4 +1,4 @@
-//! What stands before the text of a line of two parameters.
+//! What comes before the text of a line of two parameters.
 ghost use Rattle.std.specs.Prelude.{◌≡◌, ◌++◌, OnOk};
 ghost use Rattle.irc_line.specs.Lines.{lent_prefix};
 ghost use Rattle.buffer_lines.specs.Heads.{head};

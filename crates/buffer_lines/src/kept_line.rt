@@ -50,8 +50,8 @@ impl KeptLine {
         &self.line
     }
 
-    /// Appends what is shown of the line when it is played: its text has the time before it.
-    /// After an error a part of it may have been appended.
+    /// Appends the line as it is played, with the time before its text. After an error a part of it
+    /// may have been appended.
     #[tactic(auto, using(crate::proofs::Heads::played_behind))]
     pub(crate) fn play(&self, out: &mut Vec<u8>, offset: Offset) -> Result<(), AllocError>
         ensures { OnOk result (out.new.items ≡ out.old.items ++ spelling (timed offset self.now)) }

@@ -1,6 +1,6 @@
-//! The last lines of one target, with their times, as they are played to a client.
-//! Stands under buffer_targets, buffer_commands and buffer_machine, among others.
-//! Promises that a ring keeps the last lines by its size, and plays these with their times between two frame lines.
+//! The last lines of one target, with their times, as they are played to a client. Used by buffer_targets,
+//! buffer_commands and buffer_machine, among others. Promises that a ring keeps the last lines by its size, and plays
+//! these with their times between two frame lines.
 #![tactic(auto)]
 
 mod head;

@@ -34,7 +34,7 @@ impl Model for LineRing {
 }
 
 impl LineRing {
-    /// A ring that keeps at most so many lines; of size 0 it keeps none.
+    /// A ring that keeps at most this many lines; with size 0 it keeps none.
     pub fn new(alloc: Global, size: usize) -> Result<LineRing, AllocError>
         ensures { IfOk result (λ r. r ≡ ring [] size) }
     {
@@ -45,28 +45,28 @@ impl LineRing {
         })
     }
 
-    /// Adds a line, and lets the oldest go where there is no room.
+    /// Adds a line, and drops the oldest if there is no room.
     pub fn push(&mut self, line: KeptLine)
         ensures { self.new ≡ with_line line self.old }
     {
         if self.size == 0 {
             return;
         }
-        // The buffer may have more room than the size: it does not let the oldest go by itself.
+        // The deque may have more capacity than the size: it does not drop the oldest by itself.
         if self.lines.len() == self.size {
             self.lines.pop_front();
         }
         self.lines.push_back(line);
     }
 
-    /// Keeps from now on at most so many lines, and lets the oldest ones go that are too many.
-    /// A refused call changes nothing; a size that is not larger is never refused.
+    /// Keeps at most this many lines from now on, and drops the oldest that are too many. A refused
+    /// call changes nothing; a size that is not larger is never refused.
     pub fn set_size(&mut self, size: usize) -> Result<(), AllocError>
         ensures ok { OnOk result (self.new ≡ of_size size self.old) }
         ensures err { OnErr result (self.new ≡ self.old) }
         ensures smaller { size ≤ self.old.size → IsOk result }
     {
-        // Room comes first: a refused call has let no line go.
+        // Room is reserved first: a refused call has dropped no line.
         if size > self.lines.capacity() {
             self.lines.resize(size)?;
         }
@@ -75,7 +75,7 @@ impl LineRing {
         Ok(())
     }
 
-    /// Lets all lines go.
+    /// Removes all lines.
     pub fn clear(&mut self)
         ensures { self.new ≡ ring [] self.old.size }
     {
@@ -90,7 +90,7 @@ impl LineRing {
         played(self.alloc, offset, target, &self.lines, 0)
     }
 
-    /// The same of the lines behind so many older ones.
+    /// The same as `play`, for the lines after this many older ones.
     pub fn play_behind(
         &self,
         older: usize,
@@ -126,7 +126,7 @@ impl LineRing {
     }
 }
 
-/// Kept lines with their times, between the two frame lines, behind so many older ones.
+/// Kept lines with their times, between the two frame lines, after this many older ones.
 #[tactic(auto, using(crate::proofs::Framed::framed_some))]
 fn played(
     alloc: Global,
@@ -148,7 +148,7 @@ fn played(
     Ok(all)
 }
 
-/// Appends what is shown of the lines of a ring, behind so many older ones.
+/// Appends what is shown of the lines of a ring, after this many older ones.
 #[tactic(auto, using(crate::proofs::Framed::shown_behind))]
 fn push_behind(
     all: &mut Vec<Shown>,
@@ -177,7 +177,7 @@ fn push_played(all: &mut Vec<Shown>, offset: Offset, lines: &[KeptLine]) -> Resu
     push_parts(all, &text, &lengths)
 }
 
-/// What is shown of kept lines, one behind the other, and how long each is.
+/// What is shown of kept lines, one after the other, and how long each is.
 #[tactic(auto, using(crate::proofs::Parts::concat_push, crate::proofs::Parts::lengths_push))]
 fn played_text(
     alloc: Global,
@@ -206,12 +206,12 @@ fn played_room(lines: &[KeptLine]) -> usize {
     room
 }
 
-/// Appends what the parts of a text show, one behind the other, which are so long.
+/// Appends a line for each part of a text; the parts follow each other and have these lengths.
 fn push_parts(all: &mut Vec<Shown>, text: &SharedBytes, lengths: &[usize]) -> Result<(), AllocError>
     requires within { total lengths.now ≤ length text.now }
     ensures parts { OnOk result (all.new.items ≡ all.old.items ++ parts text.now lengths.now) }
 {
-    // a text is no longer than a usize counts
+    // a text is never longer than a usize can count
     text.as_slice().len();
     let mut from = 0usize;
     for length in lengths {

@@ -23,7 +23,7 @@ impl Model for Offset {
 }
 
 impl Offset {
-    /// The offset of so many minutes, with 1,439 added to them.
+    /// The offset of this many minutes, to which 1,439 were added.
     pub fn new(above_least: u16) -> Offset
         requires { above_least < 2879 }
         ensures { result ≡ above_least }
@@ -31,7 +31,7 @@ impl Offset {
         Offset { above_least }
     }
 
-    /// The minutes, with 1,439 added to them.
+    /// The minutes, with 1,439 added.
     pub fn above_least(self) -> u16
         ensures value { result ≡ self }
         ensures limit { self < 2879 }

@@ -9,8 +9,8 @@ use wire_bytes::Copied;
 /// Room for most lines that the bouncer itself writes.
 const SHORT_LINE: usize = 128;
 
-/// The canonical spelling of a line that is shown, of any length and without its CR LF. All that are
-/// shown it share one text, in which other lines may stand too.
+/// The canonical spelling of a line that is shown, of any length and without its CR LF. All clients that are shown it
+/// share one text, in which there may be other lines too.
 #[derive(Drop)]
 pub struct Shown {
     text: SharedBytes,
@@ -31,14 +31,14 @@ impl Model for Shown {
 }
 
 impl Shown {
-    /// What is shown of a line: the line's own text. No memory is taken.
+    /// What is shown of a line: the line's own text. Nothing is allocated.
     pub fn of_line(line: &Line) -> Result<Shown, AllocError>
         ensures { IfOk result (λ s. s ≡ spelling line.now) }
     {
         Ok(Shown::whole(line.text().share()?))
     }
 
-    /// What is shown of these parts, which need be no line's.
+    /// What is shown of these parts, which need not be a line's.
     pub fn of_parts(
         alloc: Global,
         prefix: Option<&[u8]>,
@@ -53,7 +53,7 @@ impl Shown {
         Ok(Shown::whole(SharedBytes::from_vec(bytes)?))
     }
 
-    /// What a text shows, which is the spelling of a line.
+    /// A whole text, which is the spelling of one line, as shown.
     fn whole(text: SharedBytes) -> Shown
         ensures { result ≡ text }
     {
@@ -61,7 +61,7 @@ impl Shown {
         Shown { text, from: 0, to }
     }
 
-    /// What a part of a text shows, which is the spelling of a line. No memory is taken.
+    /// A part of a text, which is the spelling of one line, as shown. Nothing is allocated.
     pub(crate) fn part(text: &SharedBytes, from: usize, to: usize) -> Result<Shown, AllocError>
         requires within { (from ≤ to) × (to ≤ length text.now) }
         ensures part { IfOk result (λ s. s ≡ take (to - from) (drop from text.now)) }

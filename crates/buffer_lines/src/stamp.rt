@@ -1,4 +1,4 @@
-//! The time of day that stands before a played text.
+//! The time of day that is put before a played text.
 ghost use Rattle.std.specs.Prelude.{◌≡◌, ◌+◌, ◌/◌, ◌%◌, ◌<◌, ◌++◌, OnOk, drop};
 ghost use Rattle.jiff_core.specs.Time.{time_seconds};
 ghost use Rattle.buffer_lines.specs.Stamps.{stamp, second_of_day, stamped};
@@ -13,8 +13,8 @@ use wire_bytes::Moment;
 /// How many bytes `push_stamped` adds to a text.
 pub(crate) const STAMP_LEN: usize = 11;
 
-/// Appends a text with the time before it, which in an ACTION stands behind its mark.
-/// After an error a part of it may have been appended.
+/// Appends a text with the time before it, which in an ACTION follows its mark. After an error a
+/// part of it may have been appended.
 #[tactic(auto, using(crate::proofs::Stamped::stamped_action, crate::proofs::Stamped::stamped_plain))]
 pub(crate) fn push_stamped(
     out: &mut Vec<u8>,
@@ -36,7 +36,7 @@ pub(crate) fn push_stamped(
     Ok(())
 }
 
-/// The time of day at a moment as it is spelled before a text.
+/// The time of day at a moment as it is written before a text.
 fn stamp_at(offset: Offset, at: Moment) -> [u8; STAMP_LEN]
     ensures { result ≡ stamp (second_of_day offset at) }
 {
@@ -53,7 +53,7 @@ fn clock(offset: Offset, at: Moment) -> Time
     zone.to_datetime(timestamp).time()
 }
 
-/// A time of day as it is spelled before a text.
+/// A time of day as it is written before a text.
 fn stamp_of(time: Time) -> [u8; STAMP_LEN]
     ensures { result ≡ stamp (time_seconds time) }
 {
@@ -90,7 +90,7 @@ fn ones(n: u8) -> u8
     b'0' + n % 10
 }
 
-/// What stands from a place on.
+/// The bytes from a place on.
 fn rest_from(text: &[u8], place: usize) -> &[u8]
     ensures { result.now ≡ drop place text.now }
 {

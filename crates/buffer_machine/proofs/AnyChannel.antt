@@ -1,4 +1,4 @@
--- One step of the machine holds the channels of a history, whatever the command.
+-- The machine holds the channels of a history after one step, whatever the command.
 use Rattle.std.proofs.Common.{◌≡◌, ℕ, List, ◌∷◌, length, map, refl, false, ◌&&◌}
 use Rattle.std.specs.Prelude.{codes}
 use Rattle.irc_line.specs.Names.{fold_name}
@@ -23,7 +23,7 @@ use Rattle.buffer_machine.proofs.ChannelsStep.{empties_channels, quiet_told, map
 use Rattle.buffer_machine.proofs.ChannelsStoring.{storing-held}
 use Rattle.buffer_machine.proofs.ChannelsCome.{line_by, part-held, said_alone}
 
--- the floor of a command's client's node
+-- the floor of the node of a command's client
 abbrev pub floor_now : List Command → Command → ℕ
 floor_now earlier (Client o at action) = floor earlier o.0
 floor_now earlier _ = 0

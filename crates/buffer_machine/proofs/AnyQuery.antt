@@ -1,4 +1,4 @@
--- One step of the machine holds the queries of a history, whatever the command.
+-- The machine holds the queries of a history after one step, whatever the command.
 use Rattle.std.proofs.Common.{◌≡◌, ℕ, ◌-◌, List, ◌∷◌, map, length, refl, ap, ◌∙◌, Bool, true, false, not, ◌&&◌}
 use Rattle.std.specs.Prelude.{Some, if◌then◌else◌}
 use Rattle.irc_line.specs.Names.{fold_name}

@@ -1,4 +1,4 @@
--- What a list and a set have once some of them are gone.
+-- What a list and a set have once some of their items are removed.
 use Rattle.std.proofs.Common.{◌≡◌, Bool, true, false, not, ◌&&◌, ◌||◌, List, [], ◌∷◌, refl, sym, ap, ◌∙◌}
 use Rattle.std.specs.Prelude.{if◌then◌else◌, filter}
 use Rattle.std.specs.List.{list_any}
@@ -15,13 +15,13 @@ any_step same p q x xs true false e g ih = ih ∙ rw (g refl) refl
 any_step same p q x xs false true e g ih = rw e ih
 any_step same p q x xs false false e g ih = ih
 
--- one is among those that stay where it is among all and stays
+-- an item is among those that stay if it is among all and stays
 pub any-filter : {A : Type 0} (same : A → A → Bool) → ((a b : A) → same a b ≡ true → a ≡ b) → (p : A → Bool) (q : A) (xs : List A)
     → list_any (same q) (filter p xs) ≡ (p q && list_any (same q) xs)
 any-filter same is p q [] = sym (and_false (p q))
 any-filter same is p q (x ∷ xs) = any_step same p q x xs (same q x) (p x) refl (λ e. ap p (is q x e)) (any-filter same is p q xs)
 
--- who is found by a test once one is taken out of a list, where the test finds as the list has before
+-- if a test finds what is in a list, then after one item is removed from both it finds what is in the rest
 pub removed-one : {now was : Origin → Bool} {kept : List Origin} (items : List Origin) (o : Origin) → ((q : Origin) → now q ≡ (not (same_origin o q) && was q)) → ((q : Origin) → was q ≡ is_among q items)
     → kept ≡ filter (λ x. not (same_origin o x)) items → (q : Origin) → now q ≡ is_among q kept
 removed-one items o e w k q =
@@ -29,7 +29,7 @@ removed-one items o e w k q =
     ∙ (ap (λ b. not (same_origin o q) && b) (w q)
     ∙ sym (ap (is_among q) k ∙ any-filter same_origin same_origin-is (λ x. not (same_origin o x)) q items))
 
--- and once those that do not stay are taken out of both
+-- and likewise after those that do not stay are removed from both
 pub removed-all : {same : Origin → Origin → Bool} {left kept : List Origin} (keys items : List Origin) → ((q : Origin) → list_any (same q) keys ≡ is_among q items) → ((a b : Origin) → same a b ≡ true → same_origin a b ≡ true)
     → (p : Origin → Bool) → left ≡ filter p keys → kept ≡ filter p items → (q : Origin) → list_any (same q) left ≡ is_among q kept
 removed-all {same} {left} {kept} keys items e is p l k q =

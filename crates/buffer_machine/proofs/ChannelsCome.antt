@@ -1,4 +1,4 @@
--- One step of the machine holds the channels of a history, where a channel comes or goes too.
+-- The machine holds the channels of a history after one step, also where a channel comes or goes.
 use Rattle.std.proofs.Common.{◌≡◌, ℕ, List, [], ◌∷◌, map, refl, ap, ◌∙◌, sym, Bool, true, false, not, ◌&&◌, ◌||◌, subst}
 use Rattle.std.specs.Prelude.{Some, None, if◌then◌else◌, filter, codes}
 use Rattle.std.specs.List.{list_all, list_any}
@@ -33,9 +33,9 @@ use Rattle.buffer_machine.proofs.ChannelsStoring.{storing-held}
 use Rattle.irc_line.proofs.Order.{key_is, at_key-sym, in-own}
 use Rattle.buffer_machine.proofs.Filters.{filter_same, filter_map, filter_absent}
 
--- ---- the channels that stay are as they were
+-- ---- the channels that stay are unchanged
 
--- what is held of the channels that stay, where a command does nothing to them
+-- what is held of the channels that stay, where a command does not affect them
 staying : (s : Settings) → IsSound s → (earlier : List Command) (x : Command) → with_made (made_by (nick s earlier) x) (channels s earlier) ≡ channels s earlier
     → ((c : List ℕ) → is_removed s earlier (fold_name c) x ≡ false → next_channel s earlier x (channel_held s earlier c)
     ≡ upon c (kept s earlier (fold_name c)) (size s (fold_name c) earlier) (empties_channels s earlier x && false) None (seen_held s (x ∷ earlier) (fold_name c)) (joined s earlier (fold_name c)) (detached s earlier (fold_name c)))
@@ -56,7 +56,7 @@ staying s sound earlier x m h q =
 
 -- ---- Part
 
--- whether a channel goes, by the key that is asked for
+-- whether a channel goes, by the key that was requested
 part_test_by : (s : Settings) (earlier : List Command) (asks : Bool) (c t : List ℕ) (b : Bool) → at_key (fold_name c) t ≡ b
     → not (asks && b && not (joined s earlier (fold_name c))) ≡ not (b && (asks && not (joined s earlier (fold_name t))))
 part_test_by s earlier true c t true e = ap (λ j. not (not j)) (ap (joined s earlier) (key_is (fold_name c) t e))
@@ -93,7 +93,7 @@ and_true_twice : (b : Bool) → ((b || false) && true && true) ≡ b
 and_true_twice true = refl
 and_true_twice false = refl
 
--- what a line that is no JOIN, PART or KICK of the own nick does to whether a channel is joined: nothing
+-- a line that is no JOIN, PART or KICK of the own nick does not change whether a channel is joined
 joined_still : (own k : List ℕ) (was : Bool) (at : ℕ) (line : Parts) → is_own (codes "JOIN") own line ≡ false → is_own (codes "PART") own line ≡ false → is_own_kick own line ≡ false
     → joined_after own k was (Upstream at line) ≡ was
 joined_still own k was at line e f g = rw (e, f, g) (and_true_twice was)
@@ -102,7 +102,7 @@ joined_still own k was at line e f g = rw (e, f, g) (and_true_twice was)
 pub line_alone : (s : Settings) (earlier : List Command) (at : ℕ) (line : Parts) → StoresAlone s earlier (Upstream at line)
 line_alone s earlier at line = record { plays_none = λ det known k. refl; clears_none = λ c known k. refl; sizes_none = λ b k n. refl; names_none = ids-more s (Upstream at line) earlier }
 
--- nor does what a client says
+-- and neither does what a client says
 pub said_alone : (s : Settings) (earlier : List Command) (o : Origin) (at : ℕ) (verb : Verb) (name text : List ℕ) → StoresAlone s earlier (Client o at (Say verb name text))
 said_alone s earlier o at verb name text = record { plays_none = λ det known k. refl; clears_none = λ c known k. refl; sizes_none = λ b k n. refl; names_none = ids-more s (Client o at (Say verb name text)) earlier }
 
@@ -119,14 +119,14 @@ unstored_by : (b : Bool) (k : Bool) (line : ℕ × Parts) → (if b && (false &&
 unstored_by true k line = refl
 unstored_by false k line = refl
 
--- a line that is not stored, and does nothing to a channel but what it does to whether it is joined
+-- a line that is not stored, and changes nothing of a channel except whether it is joined
 line_held : (s : Settings) (earlier : List Command) (at : ℕ) (line : Parts) (c : List ℕ) (j : Bool) → is_storable line ≡ false → joined_after (nick s earlier) (fold_name c) (joined s earlier (fold_name c)) (Upstream at line) ≡ j
     → next_channel s earlier (Upstream at line) (channel_held s earlier c)
     ≡ upon c (kept s earlier (fold_name c)) (size s (fold_name c) earlier) (empties_channels s earlier (Upstream at line) && false) None (seen_held s (Upstream at line ∷ earlier) (fold_name c)) j (detached s earlier (fold_name c))
 line_held s earlier at line c j e f =
     rw (f, e, unstored_by (keeps s.clears_channels (attached s earlier) (ids s earlier) || detached s earlier (fold_name c)) (at_key (fold_name c) (parameter 0 line)) (at, line)) refl
 
--- nor does it tell any name of anything
+-- nor does it change how much any name has seen
 line_told : (s : Settings) → IsSound s → (earlier : List Command) (at : ℕ) (line : Parts) (c : List ℕ) → is_channel c ≡ true → is_in (fold_name c) (channels s earlier) ≡ true → is_removed s earlier (fold_name c) (Upstream at line) ≡ false → is_storable line ≡ false
     → (if empties_channels s earlier (Upstream at line) && false then none_seen else seen_held s earlier (fold_name c)) ≡ seen_held s (Upstream at line ∷ earlier) (fold_name c)
 line_told s sound earlier at line c k i r e = quiet_told s sound earlier (Upstream at line) c k i r (stored-not_storable s earlier at line (fold_name c) e) refl refl
@@ -220,13 +220,13 @@ put_map_by : (c d : List ℕ) (f : List ℕ → ChannelLines) (ch : ChannelLines
 put_map_by c d f ch ds true e ih = ap (λ xs. f d ∷ xs) ih
 put_map_by c d f ch ds false e ih = ap (λ x. x ∷ f d ∷ map f ds) (sym e)
 
--- a channel put among channels is the channel of a name put among names
+-- a channel inserted among channels is the channel of a name inserted among names
 put_map : (s : Settings) (history : List Command) (c : List ℕ) (ds : List (List ℕ)) → put_channel (channel_held s history c) (map (channel_held s history) ds) ≡ map (channel_held s history) (put_in c ds)
 put_map s history c [] = refl
 put_map s history c (d ∷ ds) =
     put_map_by c d (channel_held s history) (channel_held s history c) ds (is_below (fold_name d) (fold_name c)) refl (put_map s history c ds)
 
--- the names after a channel is made
+-- the names after a channel was made
 made_names : (s : Settings) (earlier : List Command) (at : ℕ) (line : Parts) → is_own (codes "JOIN") (nick s earlier) line ≡ true → is_in (fold_name (parameter 0 line)) (channels s earlier) ≡ false
     → channels s (Upstream at line ∷ earlier) ≡ put_in (parameter 0 line) (channels s earlier)
 made_names s earlier at line e u =
@@ -238,7 +238,7 @@ apart : (s : Settings) (earlier : List Command) (c p : List ℕ) (b : Bool) → 
 apart s earlier c p true e i u = sym i ∙ (ap (λ k. is_in k (channels s earlier)) (key_is (fold_name c) p e) ∙ u)
 apart s earlier c p false e i u = refl
 
--- the other channels are as they were
+-- the other channels are unchanged
 beside : (s : Settings) → IsSound s → (earlier : List Command) (at : ℕ) (line : Parts) → is_own (codes "JOIN") (nick s earlier) line ≡ true → is_in (fold_name (parameter 0 line)) (channels s earlier) ≡ false
     → map (channel_held s earlier) (channels s earlier) ≡ map (channel_held s (Upstream at line ∷ earlier)) (channels s earlier)
 beside s sound earlier at line e u =

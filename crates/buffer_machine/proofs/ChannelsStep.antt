@@ -1,4 +1,4 @@
--- One step of the machine holds the channels of a history.
+-- The machine holds the channels of a history after one step.
 use Rattle.std.proofs.Common.{◌≡◌, ℕ, ◌-◌, ◌≤◌, List, [], ◌∷◌, map, length, refl, ap, ◌∙◌, sym, Bool, true, false, not, ◌&&◌, subst}
 use Rattle.std.specs.Prelude.{Option, Some, None, if◌then◌else◌, filter}
 use Rattle.std.specs.List.{list_all}
@@ -38,7 +38,7 @@ pub filter_all : {A : Type 0} (p : A → Bool) (xs : List A) → ((x : A) → p 
 filter_all p [] h = refl
 filter_all p (x ∷ xs) h = rw (h x) (ap (λ ys. x ∷ ys) (filter_all p xs h))
 
--- no command that removes nothing and makes nothing changes the names
+-- a command that removes nothing and makes nothing does not change the names
 names-same : (s : Settings) (earlier : List Command) (x : Command) → ((k : List ℕ) → is_removed s earlier k x ≡ false) → with_made (made_by (nick s earlier) x) (channels s earlier) ≡ channels s earlier
     → channels s (x ∷ earlier) ≡ channels s earlier
 names-same s earlier x r m =
@@ -46,7 +46,7 @@ names-same s earlier x r m =
     ∙ (ap (λ cs. filter (λ c. not (is_removed s earlier (fold_name c) x)) cs) m
     ∙ filter_all (λ c. not (is_removed s earlier (fold_name c) x)) (channels s earlier) (λ c. not_from _ (r (fold_name c))))
 
--- each channel changed by itself
+-- each channel is changed by itself
 pub mapped : (s : Settings) → IsSound s → (earlier : List Command) (x : Command) (g : ChannelLines → ChannelLines)
     → ((k : List ℕ) → is_removed s earlier k x ≡ false) → with_made (made_by (nick s earlier) x) (channels s earlier) ≡ channels s earlier
     → ((c : List ℕ) → is_channel c ≡ true → is_in (fold_name c) (channels s earlier) ≡ true
@@ -61,7 +61,7 @@ mapped s sound earlier x g r m h =
     h c channel_name here ∙ sym (channel-next s earlier x c channel_name here (r (fold_name c))))
     ∙ ap (map (channel_held s (x ∷ earlier))) (sym (names-same s earlier x r m)))
 
--- no channel changed
+-- no channel is changed
 pub unmapped : (s : Settings) → IsSound s → (earlier : List Command) (x : Command)
     → ((k : List ℕ) → is_removed s earlier k x ≡ false) → with_made (made_by (nick s earlier) x) (channels s earlier) ≡ channels s earlier
     → ((c : List ℕ) → is_channel c ≡ true → is_in (fold_name c) (channels s earlier) ≡ true
@@ -113,7 +113,7 @@ attach-held s sound earlier o at id =
     (λ c k i. attach_one c (lines s earlier c) (size s (fold_name c) earlier) (fits s earlier c) (seen_held s earlier (fold_name c)) (seen_held s (Client o at (Attach id) ∷ earlier) (fold_name c)) (reader_named id (names_held s earlier)) (joined s earlier (fold_name c)) (detached s earlier (fold_name c)) (takes s earlier (Client o at (Attach id))) (empties_channels s earlier (Client o at (Attach id)))
     (seen-channel s sound earlier (Client o at (Attach id)) c (counted (length (kept s earlier (fold_name c))) 0 (reader_named id (names_held s earlier)) (seen_held s earlier (fold_name c))) k i (removed-is s earlier (fold_name c) (Client o at (Attach id))) (unsaid s earlier (Client o at (Attach id)) (fold_name c) refl) refl (attach_told s earlier o at id (fold_name c) (detached s earlier (fold_name c))))))
 
--- a command that does nothing to the channels
+-- a command that does not affect the channels
 pub quiet_held : (s : Settings) → IsSound s → (earlier : List Command) (x : Command) → ((k : List ℕ) → is_removed s earlier k x ≡ false) → with_made (made_by (nick s earlier) x) (channels s earlier) ≡ channels s earlier
     → ((c : List ℕ) → next_channel s earlier x (channel_held s earlier c) ≡ upon c (kept s earlier (fold_name c)) (size s (fold_name c) earlier) (empties_channels s earlier x && false) None (seen_held s (x ∷ earlier) (fold_name c)) (joined s earlier (fold_name c)) (detached s earlier (fold_name c)))
     → ((c : List ℕ) → is_channel c ≡ true → is_in (fold_name c) (channels s earlier) ≡ true → (if empties_channels s earlier x && false then none_seen else seen_held s earlier (fold_name c)) ≡ seen_held s (x ∷ earlier) (fold_name c))
@@ -126,7 +126,7 @@ pub either_way : (b : Bool) (told : List ℕ) → told ≡ (if b then told else 
 either_way true told = refl
 either_way false told = refl
 
--- and tells no name of anything more
+-- nor does it change how much any name has seen
 pub quiet_told : (s : Settings) → IsSound s → (earlier : List Command) (x : Command) (c : List ℕ) → is_channel c ≡ true → is_in (fold_name c) (channels s earlier) ≡ true → is_removed s earlier (fold_name c) x ≡ false
     → stored s (fold_name c) earlier x ≡ None → size_after (attached s earlier) true (fold_name c) (size s (fold_name c) earlier) x ≡ size s (fold_name c) earlier
     → plays (takes s earlier x) (attached s earlier) (detached s earlier (fold_name c)) (fold_name c) true x ≡ false
@@ -234,7 +234,7 @@ again_map : (asks clears : Bool) (names : Names) (key : List ℕ) (chs : List Ch
 again_map false clears names key chs o = sym (map_id chs)
 again_map true clears names key chs o = again_map_by (clears_now clears names) (here_of names) (is_detached o) key chs
 
--- channels of one key are detached together
+-- channels with the same key are detached together
 pub detached_together : (s : Settings) (earlier : List Command) (c t : List ℕ) → at_key (fold_name c) t ≡ true → detached s earlier (fold_name c) ≡ detached s earlier (fold_name t)
 detached_together s earlier c t e = ap (detached s earlier) (key_is (fold_name c) t e)
 

@@ -1,4 +1,4 @@
--- One step of the machine holds the channels of a history, where a line is stored.
+-- The machine holds the channels of a history after one step, where a line is stored.
 use Rattle.std.proofs.Common.{◌≡◌, ℕ, suc, ◌-◌, List, [], ◌∷◌, map, length, refl, ap, ◌∙◌, sym, Bool, true, false, not, ◌&&◌, ◌||◌}
 use Rattle.std.specs.Prelude.{Option, Some, None, if◌then◌else◌}
 use Rattle.irc_line.specs.Names.{fold_name, is_channel}
@@ -69,7 +69,7 @@ store_told s sound earlier x line c p false a k i r o d =
 key_of : (b k : Bool) → (b && k) ≡ true → k ≡ true
 key_of b k e = and_right b k e
 
--- a command that does nothing to the channels but that it stores its line
+-- a command that does nothing to the channels except that its line is stored
 pub storing-held : (s : Settings) → IsSound s → (earlier : List Command) (x : Command) (o : Option (ℕ × Parts)) → ((k : List ℕ) → is_removed s earlier k x ≡ false) → with_made (made_by (nick s earlier) x) (channels s earlier) ≡ channels s earlier
     → said (attached s earlier) (nick s earlier) x ≡ o → StoresAlone s earlier x
     → ((c : List ℕ) → next_channel s earlier x (channel_held s earlier c)

@@ -38,7 +38,7 @@ pub parts_by : (am : Bool) (all shows sends close : List Effect) → all ≡ sho
 parts_by true all shows sends close e = e
 parts_by false all shows sends close e = sym (append-nil (close ++ []) ∙ append-nil close)
 
--- shown alone
+-- only what is shown
 pub shows_by : (am : Bool) (shows close : List Effect) → (if am then shows else close) ≡ (if am then [] else close) ++ (if am then shows else []) ++ (if am then [] else [])
 shows_by am shows close = parts_by am shows shows [] close (sym (append-nil shows))
 
@@ -144,7 +144,7 @@ flat_filter_by : {A B : Type 0} (f : A → List B) (x : A) (xs : List A) (ys : L
 flat_filter_by f x xs ys true e = ap (λ l. f x ++ l) e
 flat_filter_by f x xs ys false e = e
 
--- what each of those gives that pass a test
+-- the results of the items that pass a test
 flat_filter : {A B : Type 0} (f : A → List B) (p : A → Bool) (xs : List A) → flat_map f (filter p xs) ≡ flat_map (λ x. if p x then f x else []) xs
 flat_filter f p [] = refl
 flat_filter f p (x ∷ xs) = flat_filter_by f x (filter p xs) (flat_map (λ y. if p y then f y else []) xs) (p x) (flat_filter f p xs)

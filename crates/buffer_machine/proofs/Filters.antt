@@ -1,4 +1,4 @@
--- What passes a test, of a list.
+-- The items of a list that pass a test.
 use Rattle.std.proofs.Common.{◌≡◌, ℕ, List, [], ◌∷◌, map, refl, ap, Bool, true, false, not, ◌&&◌}
 use Rattle.std.specs.Prelude.{if◌then◌else◌, filter}
 use Rattle.irc_line.specs.Keys.{at_key, is_in}
@@ -12,7 +12,7 @@ filter_map_by : {A B : Type 0} (f : A → B) (x : A) (xs : List A) (ys : List B)
 filter_map_by f x xs ys zs true e = ap (λ l. f x ∷ l) e
 filter_map_by f x xs ys zs false e = e
 
--- a test of what a map gives
+-- a test of the results of a map
 pub filter_map : {A B : Type 0} (f : A → B) (p : B → Bool) (xs : List A) → filter p (map f xs) ≡ map f (filter (λ x. p (f x)) xs)
 filter_map f p [] = refl
 filter_map f p (x ∷ xs) = filter_map_by f x xs (filter p (map f xs)) (filter (λ y. p (f y)) xs) (p (f x)) (filter_map f p xs)
@@ -21,7 +21,7 @@ filter_absent_by : (k c : List ℕ) (b at : Bool) (cs ds : List (List ℕ)) → 
 filter_absent_by k c b true cs ds e f = absurd cc
 filter_absent_by k c b false cs ds e f = ap (λ l. c ∷ l) f
 
--- no name goes by a key that is not there
+-- no name has a key that is not in the list
 pub filter_absent : (k : List ℕ) (b : Bool) (cs : List (List ℕ)) → is_in k cs ≡ false → filter (λ c. not (at_key k c && b)) cs ≡ cs
 filter_absent k b [] e = refl
 filter_absent k b (c ∷ cs) e =

@@ -69,7 +69,7 @@ floors-step floors earlier (NodeGone n boot) f = record {
       ∙ (ap (λ v. if n == node then max v boot else v) (f.each node h) ∙ sym (floor-more (NodeGone n boot) earlier node));
 }
 
--- the machine has the floor of a command's client's node
+-- the machine holds the floor of the node of a command's client
 pub floor-is : (floors : List ℕ) (earlier : List Command) (x : Command) → AreFloors floors earlier → IsWithinLimits x → floor_for floors x ≡ floor_now earlier x
 floor-is floors earlier (Client o at action) f h = f.each o.0 h
 floor-is floors earlier (Upstream at line) f h = refl
@@ -77,7 +77,7 @@ floor-is floors earlier (NodeGone n boot) f h = refl
 floor-is floors earlier Up f h = refl
 floor-is floors earlier Down f h = refl
 
--- whether a command is an Attach that is taken, by the floor of its client's node alone
+-- whether a command is an Attach that is taken depends only on the floor of its client's node
 pub one_floor : (s : Settings) (earlier : List Command) (x : Command) → is_taken (λ _. floor_now earlier x) (attached s earlier) (ids s earlier) x ≡ takes s earlier x
 one_floor s earlier (Client o at (Attach id)) = refl
 one_floor s earlier (Client o at Leave) = refl

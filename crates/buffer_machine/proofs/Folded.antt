@@ -1,4 +1,4 @@
--- A folded name begins as a channel's name where the name itself does.
+-- A folded name begins like a channel's name where the name itself does.
 use Rattle.std.proofs.Common.{◌≡◌, ℕ, Bool, true, false, ◌&&◌, ◌||◌, List, [], ◌∷◌, length, refl, ◌∙◌, arith, sym, ap}
 use Rattle.std.specs.Prelude.{◌==◌, nat_le}
 use Rattle.std.specs.List.{list_all}
@@ -17,7 +17,8 @@ folded-name_bytes : (name : List ℕ) → list_all is_name_byte name ≡ true �
 folded-name_bytes [] e = refl
 folded-name_bytes (b ∷ name) e = and_both _ _ (folded-name_byte b (and_left _ _ e)) (folded-name_bytes name (and_right _ _ e))
 
--- what a channel's name begins with is folded to itself, and nothing else is folded to it
+-- the bytes that channels' names begin with fold to themselves, and no other byte folds to one of
+-- them
 abbrev begins : ℕ → Bool
 begins b = b == 35 || b == 38 || b == 43 || b == 33
 

@@ -12,7 +12,7 @@ use Rattle.buffer_machine.specs.Held.{channel_held, seen_held, target_held}
 use Rattle.buffer_machine.proofs.Unknown.{detached-unknown}
 use Rattle.irc_line.proofs.Order.{key_is}
 
--- the target, and the channel, of a key with what is held under it
+-- the target, and the channel, of a key with what is held of it
 abbrev pub target_under : Settings → List Command → List ℕ → Option (List ℕ) → TargetLines
 target_under s history k name = target (unwrap_or name k) (ring (kept s history k) (size s k history)) (seen_held s history k)
 
@@ -59,7 +59,7 @@ joined_by : (c : ChannelLines) (b : Bool) → is_joined (if b then Some c else N
 joined_by c true = refl
 joined_by c false = refl
 
--- whether a channel is found that is joined
+-- whether the channel that is found, if any, is joined
 pub found-joined : (s : Settings) (history : List Command) (k : List ℕ)
     → is_joined (channel_of_key k (map (channel_held s history) (channels s history))) ≡ (is_in k (channels s history) && joined s history k)
 found-joined s history k =

@@ -1,4 +1,4 @@
--- One step of the machine holds what its definitions say.
+-- The machine holds what its definitions say after one step.
 use Rattle.std.proofs.Common.{◌≡◌, ℕ, List, ◌∷◌, refl, ap, ◌∙◌}
 use Rattle.buffer_commands.specs.Settings.{Settings}
 use Rattle.buffer_commands.specs.declared.command.Command.{Command}
@@ -23,7 +23,7 @@ nick-more s earlier x = refl
 names-now : (s : Settings) (earlier : List Command) (x : Command) → names_after s.many_clients (is_taken (λ _. floor_now earlier x) (attached s earlier) (ids s earlier) x) (names_held s earlier) x ≡ names_held s (x ∷ earlier)
 names-now s earlier x = ap (λ b. names_after s.many_clients b (names_held s earlier) x) (one_floor s earlier x) ∙ names-step s earlier x
 
--- what is held after one command more
+-- what is held after one more command
 pub held-step : (s : Settings) → IsSound s → (earlier : List Command) (x : Command) → after s (floor_now earlier x) (held s earlier) x ≡ held s (x ∷ earlier)
 held-step s sound earlier x =
     rw (nick-more s earlier x, attached-step s earlier x, names-now s earlier x, channels-step s sound earlier x, queries-step s sound earlier x) refl

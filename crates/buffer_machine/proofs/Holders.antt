@@ -1,4 +1,4 @@
--- Which attached clients have a name, after one command more, and one after the other.
+-- Which attached clients have a name, after one more command, and one client after the other.
 use Rattle.std.proofs.Common.{◌≡◌, ℕ, suc, Bool, true, false, not, ◌&&◌, ◌||◌, List, [], ◌∷◌, ◌++◌, refl, sym, ap, arith, ◌∙◌}
 use Rattle.std.specs.Prelude.{◌==◌, if◌then◌else◌, nat_lt, flat_map, filter, option_map, Option, Some, None}
 use Rattle.std.proofs.lemmas.Bool.Decides.{nat_tests}
@@ -32,13 +32,13 @@ flat_append : {A B : Type 0} (f : A → List B) (xs : List A) (x : A) → flat_m
 flat_append f [] x = append-nil (f x)
 flat_append f (y ∷ ys) x = ap (λ zs. f y ++ zs) (flat_append f ys x) ∙ sym (append_assoc (f y) (flat_map f ys) (f x))
 
--- ---- one client more
+-- ---- one more client
 
 stays_by : (b c : Bool) (m n : ℕ) → (b || c) ≡ true → (c ≡ true → m ≡ n) → (if b then 0 else suc m) ≡ (if b then 0 else suc n)
 stays_by true c m n e h = refl
 stays_by false c m n e h = ap suc (h e)
 
--- a name that is there stands where it stood
+-- a name that is already there keeps its place
 index_stays : (j : List ℕ) (ids more : List (List ℕ)) → is_id_in j ids ≡ true → index_in j (ids ++ more) ≡ index_in j ids
 index_stays j [] more e = cc
 index_stays j (x ∷ xs) more e = stays_by (same_bytes j x) (is_id_in j xs) (index_in j (xs ++ more)) (index_in j xs) e (index_stays j xs more)
@@ -55,7 +55,7 @@ holder_with : (p : Origin) (n given : Option (List ℕ)) (ids : List (List ℕ))
 holder_with p None given ids e = refl
 holder_with p (Some j) given ids e = ap (λ i. (p, i) ∷ []) (sym (index_with j given ids e))
 
--- what those have who were there
+-- the names of those who were there
 old_holders : (o : Origin) (given : Option (List ℕ)) (ids : List (List ℕ)) (g : Origin → Option (List ℕ)) → ((p : Origin) → has_id ids (g p) ≡ true) → (os : List Origin) → is_among o os ≡ false
     → flat_map (λ p. holder ids p (g p)) os ≡ flat_map (λ p. holder (with_id given ids) p (if same_origin o p then given else g p)) os
 old_holders o given ids g h [] e = refl
@@ -99,7 +99,7 @@ stay p ids g (o ∷ os) =
 
 -- ---- after a command
 
--- who has which name, of these clients
+-- which of these clients has which name
 abbrev pub holders : List (List ℕ) → (Origin → Option (List ℕ)) → List Origin → List (Origin × ℕ)
 holders ids g os = flat_map (λ o. holder ids o (g o)) os
 
@@ -135,7 +135,7 @@ names_by many taken ids g os (Upstream at line) h f = refl
 names_by many taken ids g os Up h f = refl
 names_by many taken ids g os Down h f = refl
 
--- who attaches was not attached
+-- a client whose Attach is taken was not attached
 pub was_away : (s : Settings) (earlier : List Command) (o : Origin) (at : ℕ) (given : Option (List ℕ)) → takes s earlier (Client o at (Attach given)) ≡ true → is_among o (attached s earlier) ≡ false
 was_away s earlier o at given e = not_true (is_among o (attached s earlier)) (and_left _ _ (and_left _ (may_name (ids s earlier) given) e))
 
@@ -150,9 +150,9 @@ names-step s earlier x =
     (flat_same (λ o. holder (ids_after (takes s earlier x) (ids s earlier) x) o (id_of s (x ∷ earlier) o)) (λ o. holder (ids_after (takes s earlier x) (ids s earlier) x) o (id_after (takes s earlier x) (id_of s earlier o) o x))
     (λ o. ap (holder (ids_after (takes s earlier x) (ids s earlier) x) o) (id-more s x earlier o)) (attached_after s.many_clients (takes s earlier x) (attached s earlier) x))))
 
--- ---- where the name of a client stands
+-- ---- the place of a client's name
 
--- where a name stands among these, if it is one
+-- the place of a name among these, if there is one
 abbrev pub place : List (List ℕ) → Option (List ℕ) → Option ℕ
 place ids n = option_map (λ j. index_in j ids) n
 
@@ -204,7 +204,7 @@ shown_by : (offset : ℕ) (nick : List ℕ) (c : ChannelLines) (ids : List (List
 shown_by offset nick c ids g o os None e ih = rw (no_next ids g o os e, all_left ids g o os e, ih) refl
 shown_by offset nick c ids g o os (Some j) e ih = rw (same_origin-refl o, ih) refl
 
--- each client is shown a channel by its own name
+-- each client is shown a channel as its own name has seen it
 pub each_shown : (offset : ℕ) (nick : List ℕ) (c : ChannelLines) (ids : List (List ℕ)) (g : Origin → Option (List ℕ)) (os : List Origin)
     → each_shown_joined offset nick c os (holders ids g os) ≡ flat_map (λ p. shown_joined offset nick c (place ids (g p)) p) os
 each_shown offset nick c ids g [] = refl

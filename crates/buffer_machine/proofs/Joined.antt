@@ -1,4 +1,4 @@
--- All are shown that a channel is joined, one after the other.
+-- All clients are shown, one after the other, that a channel is joined.
 use Rattle.std.proofs.Common.{◌≡◌, ℕ, suc, ◌+◌, ◌<◌, ◌≤◌, List, [], ◌∷◌, ◌++◌, length, drop, get_or, refl, sym, ap, ◌∙◌, arith}
 use Rattle.std.specs.Prelude.{flat_map, map, codes, None}
 use Rattle.irc_line.specs.Lines.{spelling}
@@ -13,7 +13,7 @@ use Rattle.buffer_targets.specs.Targets.{ChannelLines}
 use Rattle.buffer_commands.specs.declared.effect.Effect.{Effect}
 use Rattle.buffer_machine.specs.Answering.{each_shown_joined, played_by, reader_next, readers_left, shown_joined}
 
--- one client more
+-- one more client
 pub each_step : (offset : ℕ) (nick : List ℕ) (c : ChannelLines) (os : List Origin) (hs : List (Origin × ℕ)) (i : ℕ) (o : Origin) (done new whole : List Effect)
     → i < length os → o ≡ get_or os i o → done ++ each_shown_joined offset nick c (drop i os) hs ≡ whole → new ≡ done ++ shown_joined offset nick c (reader_next o hs) o
     → new ++ each_shown_joined offset nick c (drop (i + 1) os) (readers_left o hs) ≡ whole
@@ -32,7 +32,7 @@ pub none_has : (offset : ℕ) (nick : List ℕ) (c : ChannelLines) (os : List Or
 none_has offset nick c [] = refl
 none_has offset nick c (o ∷ os) = ap (λ es. shown_joined offset nick c None o ++ es) (none_has offset nick c os)
 
--- and then each is shown the same as all
+-- and then what each is shown is the same for all
 pub all_same : (offset : ℕ) (nick : List ℕ) (c : ChannelLines) (os : List Origin) (hs : List (Origin × ℕ)) (lines : List (List ℕ)) → hs ≡ []
     → lines ≡ map spelling (own_line nick (codes "JOIN") c.target.name ∷ played_by offset None c.target) → flat_map (copies lines) os ≡ each_shown_joined offset nick c os hs
 all_same offset nick c os hs lines e f =

@@ -1,4 +1,4 @@
--- What a target keeps after one command more.
+-- What a target keeps after one more command.
 use Rattle.std.proofs.Common.{◌≡◌, ℕ, ◌-◌, ◌≤◌, List, [], ◌∷◌, ◌++◌, length, refl, ap, ◌∙◌, sym, arith, Bool, true, false, not, ◌&&◌, ◌||◌, length-drop}
 use Rattle.std.specs.Prelude.{Option, Some, None, if◌then◌else◌, codes}
 use Rattle.circular_buffer.specs.Buffer.{keep_last}
@@ -33,11 +33,11 @@ length-keep_last n xs = rw length-drop (omega arith)
 abbrev pub next : ℕ → List (ℕ × Parts) → Bool → Option (ℕ × Parts) → List (ℕ × Parts)
 next n ks emptied stored = keep_last n ((if emptied then [] else ks) ++ if_kept true stored)
 
--- nothing comes and nothing goes
+-- no line comes and none goes
 pub next-quiet : (n : ℕ) (ks : List (ℕ × Parts)) → length ks ≤ n → next n ks false None ≡ ks
 next-quiet n ks h = rw append-nil (keep_last-all n ks h)
 
--- of nothing, nothing is kept
+-- of no lines, none are kept
 pub next-nothing : (n : ℕ) (e : Bool) → next n [] e None ≡ []
 next-nothing n true = keep_last-nil n
 next-nothing n false = keep_last-nil n
@@ -69,12 +69,12 @@ and_assoc : (a b c : Bool) → (a && b && c) ≡ (a && (b && c))
 and_assoc true b c = refl
 and_assoc false b c = refl
 
--- a known key is not that of a name that is not known
+-- a known key is not the key of an unknown name
 key_apart : (cs : List (List ℕ)) (k p : List ℕ) (b : Bool) → at_key k p ≡ b → is_in k cs ≡ true → is_in (fold_name p) cs ≡ false → b ≡ false
 key_apart cs k p true e i n = sym i ∙ (ap (λ key. is_in key cs) (key_is k p e) ∙ n)
 key_apart cs k p false e i n = refl
 
--- nor is a key that is not known that of a known name
+-- nor is an unknown key the key of a known name
 key_apart_too : (cs : List (List ℕ)) (k p : List ℕ) (b : Bool) → at_key k p ≡ b → is_in k cs ≡ false → is_in (fold_name p) cs ≡ true → b ≡ false
 key_apart_too cs k p true e n i = sym i ∙ (ap (λ key. is_in key cs) (sym (key_is k p e)) ∙ n)
 key_apart_too cs k p false e n i = refl
@@ -94,7 +94,7 @@ aim-known_by cs own k line true false c i e =
 aim-known : (cs : List (List ℕ)) (own k : List ℕ) (line : Parts) → is_channel k ≡ true → is_in k cs ≡ true → is_for k (aim cs own line) ≡ (is_storable line && at_key k (parameter 0 line))
 aim-known cs own k line c i = aim-known_by cs own k line (is_storable line) (is_in (fold_name (parameter 0 line)) cs) c i refl
 
--- no line is for a channel that is not known
+-- no line is for an unknown channel
 aim-unknown_by : (cs : List (List ℕ)) (own k : List ℕ) (line : Parts) (storable known : Bool) → is_channel k ≡ true → is_in k cs ≡ false → is_in (fold_name (parameter 0 line)) cs ≡ known
     → is_for k (if not storable then None else if known then Some (parameter 0 line) else if is_query_line own line then Some (source line) else None) ≡ false
 aim-unknown_by cs own k line false known c i e = refl
@@ -139,7 +139,7 @@ stored_none keep cs own k None c i = refl
 stored_none keep cs own k (Some line) c i =
     ap (λ b. if keep && b then Some line else None) (aim-unknown cs own k line.1 c i) ∙ ap (λ b. if b then Some line else None) (and_false keep)
 
--- nothing is stored in a channel that is not known
+-- nothing is stored in an unknown channel
 pub stored-unknown : (s : Settings) (earlier : List Command) (x : Command) (k : List ℕ) → is_channel k ≡ true → is_in k (channels s earlier) ≡ false → stored s k earlier x ≡ None
 unfolding stored
 stored-unknown s earlier x k c i = stored_none _ (channels s earlier) (nick s earlier) k (said (attached s earlier) (nick s earlier) x) c i
@@ -160,7 +160,7 @@ stored_query_at keep cs own k (Some line) i =
     ap (λ b. if keep && b then Some line else None) (aim-query cs own k line i)
     ∙ ap (λ b. if b then Some line else None) (sym (made_if keep k (query_aim cs own (Some line))))
 
--- what is stored in a query is stored in the one that the command names
+-- the query that stores the line is the one that the command names
 pub stored-query : (s : Settings) → IsSound s → (earlier : List Command) (x : Command) (k : List ℕ) → is_channel k ≡ false
     → stored s k earlier x ≡ line_if (is_made_at k (stored_query s earlier x)) (said (attached s earlier) (nick s earlier) x)
 unfolding stored stored_query
@@ -173,6 +173,6 @@ stored-query s sound earlier x k c =
 pub other_command : (word other : List ℕ) (line : Parts) → has_command word line ≡ true → same_bytes word other ≡ false → has_command other line ≡ false
 other_command word other line e f = ap (λ c. same_bytes c other) (same_bytes-eq line.command word e) ∙ f
 
--- a line of another command than PRIVMSG and NOTICE is not stored
+-- a line whose command is neither PRIVMSG nor NOTICE is not stored
 pub not_storable : (word : List ℕ) (line : Parts) → has_command word line ≡ true → same_bytes word (codes "PRIVMSG") ≡ false → same_bytes word (codes "NOTICE") ≡ false → is_storable line ≡ false
 not_storable word line e f g = rw (other_command word (codes "PRIVMSG") line e f, other_command word (codes "NOTICE") line e g) refl

@@ -29,7 +29,7 @@ names_same false names = refl
 none_cleared : (clears : Bool) (names : Names) (id : List ℕ) → clears_attaching clears names (Some id) ≡ false
 none_cleared clears names id = and_false (clears_now clears names)
 
--- by a name
+-- with a name
 pub let_some : (s : Settings) (floor : ℕ) (h r : Held) (o : Origin) (id : List ℕ) (cs : List Origin) → taken_now floor h (Client o 0 (Attach (Some id))) ≡ true → r ≡ with_room s.many_clients h → cs ≡ r.clients ++ o ∷ []
     → shown_noted o id (holding r.nick cs r.names r.channels r.queries) ≡ after s floor h (Client o 0 (Attach (Some id)))
 let_some s floor h r o id cs t e f =
@@ -43,7 +43,7 @@ queries_emptied : (clears : Bool) (names : Names) (ts : List TargetLines) → no
 queries_emptied true names ts e = rw e refl
 queries_emptied false names ts e = sym (all_by_none ts)
 
--- without one, where no name is known
+-- without a name, if no name is known
 pub let_none : (s : Settings) (floor : ℕ) (h r : Held) (o : Origin) (cs : List Origin) → taken_now floor h (Client o 0 (Attach None)) ≡ true → r ≡ with_room s.many_clients h → cs ≡ r.clients ++ o ∷ [] → not (is_some_of r.names.ids) ≡ true
     → shown_emptied s (holding r.nick cs r.names r.channels r.queries) ≡ after s floor h (Client o 0 (Attach None))
 let_none s floor h r o cs t e f n =
@@ -56,7 +56,7 @@ channels_kept clears names cs e = rw (no_clearing clears names e) (sym (open_by_
 queries_kept : (clears : Bool) (names : Names) (ts : List TargetLines) → not (is_some_of names.ids) ≡ false → ts ≡ map (after_play (clears_attaching clears names None) []) ts
 queries_kept clears names ts e = rw (no_clearing clears names e) (sym (all_by_none ts))
 
--- and where one is
+-- without a name, where some name is known
 pub let_plain : (s : Settings) (floor : ℕ) (h r : Held) (o : Origin) (cs : List Origin) → taken_now floor h (Client o 0 (Attach None)) ≡ true → r ≡ with_room s.many_clients h → cs ≡ r.clients ++ o ∷ [] → not (is_some_of r.names.ids) ≡ false
     → holding r.nick cs r.names r.channels r.queries ≡ after s floor h (Client o 0 (Attach None))
 let_plain s floor h r o cs t e f n =

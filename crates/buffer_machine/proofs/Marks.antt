@@ -1,4 +1,4 @@
--- What stands before the first mark.
+-- What comes before the first mark.
 use Rattle.std.proofs.Common.{◌≡◌, ℕ, zero, suc, ◌<◌, ◌≤◌, Bool, true, false, not, List, [], ◌∷◌, take, length, get_or, refl, ap, ◌∙◌, arith}
 use Rattle.std.specs.Prelude.{◌==◌, if◌then◌else◌}
 use Rattle.std.specs.List.{take_while, list_all}
@@ -17,7 +17,7 @@ mark_at [] i d e h m = absurd (omega arith)
 mark_at (x ∷ xs) zero d e h m = take_while-cons no_mark x xs ∙ ap (λ b. if b then x ∷ take_while no_mark xs else []) m
 mark_at (x ∷ xs) (suc i) d e h m = while_cons x xs (take i xs) (and_left _ _ e) (mark_at xs i d (and_right (no_mark x) _ e) (omega arith) m)
 
--- all of it, where no mark stands in a front that is all of it
+-- the whole list, if there is no mark in it
 pub no_mark_past : (xs : List ℕ) (i : ℕ) → list_all no_mark (take i xs) ≡ true → length xs ≤ i → take_while no_mark xs ≡ xs
 no_mark_past [] i e h = refl
 no_mark_past (x ∷ xs) zero e h = absurd (omega arith)

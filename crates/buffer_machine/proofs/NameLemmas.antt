@@ -41,6 +41,6 @@ pub own_named : (word nick : List ℕ) (line : Parts) → is_own word nick line 
 unfolding is_channel
 own_named word nick line e = and_left (is_name (parameter 0 line)) _ (and_right (has_command word line && is_by nick line) (is_channel (parameter 0 line)) e)
 
--- who has a query has a name
+-- the sender of a query line has a name
 pub query_line_named : (nick : List ℕ) (line : Parts) → is_query_line nick line ≡ true → is_name (source line) ≡ true
 query_line_named nick line e = and_left _ _ (and_right _ (is_query_name (source line)) e)

@@ -15,7 +15,7 @@ found_none_by : (k c : List ℕ) (cs : List (List ℕ)) (b : Bool) → b ≡ fal
 found_none_by k c cs true e f = absurd cc
 found_none_by k c cs false e f = f
 
--- no name is found under a key that is not there
+-- no name is found under a key that is not in the list
 found_none : (k : List ℕ) (cs : List (List ℕ)) → is_in k cs ≡ false → find (at_key k) cs ≡ None
 found_none k [] e = refl
 found_none k (c ∷ cs) e = found_none_by k c cs (at_key k c) (or_left_false (at_key k c) _ e) (found_none k cs (or_right_false (at_key k c) _ e))
@@ -25,7 +25,7 @@ found_some_by : (k c a b : List ℕ) (cs : List (List ℕ)) (t : Bool) → (t ||
 found_some_by k c a b cs true e ih = refl
 found_some_by k c a b cs false e ih = ih e
 
--- a name is found, whatever stands for none
+-- a name is found, whatever the fallback is
 found_some : (k a b : List ℕ) (cs : List (List ℕ)) → is_in k cs ≡ true → unwrap_or (find (at_key k) cs) a ≡ unwrap_or (find (at_key k) cs) b
 found_some k a b [] e = absurd cc
 found_some k a b (c ∷ cs) e = found_some_by k c a b cs (at_key k c) e (λ i. found_some k a b cs i)
@@ -43,7 +43,7 @@ pub known-is : (s : Settings) (history : List Command) (c : List ℕ) → is_cha
 unfolding is_channel_known
 known-is s history c = refl
 
--- the playback of a channel that is known
+-- the playback of a known channel
 pub played-known : (s : Settings) (history : List Command) (c : List ℕ) → is_in (fold_name c) (channels s history) ≡ true
     → playback s history (fold_name c) ≡ framed s.offset (unwrap_or (find (at_key (fold_name c)) (channels s history)) (fold_name c)) (kept s history (fold_name c))
 played-known s history c e = playback-both s history (fold_name c) ∙ rw e refl

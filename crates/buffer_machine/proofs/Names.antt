@@ -39,7 +39,7 @@ pub in-put : (k c : List ℕ) (cs : List (List ℕ)) → is_in k (put_in c cs) �
 in-put k c [] = refl
 in-put k c (d ∷ ds) = in-put_by k c d ds (is_below (fold_name d) (fold_name c)) (in-put k c ds)
 
--- that a name is made, of this key
+-- a name with this key is made
 abbrev pub is_made_at : List ℕ → Option (List ℕ) → Bool
 is_made_at k None = false
 is_made_at k (Some c) = at_key k c
@@ -70,7 +70,7 @@ pub in-new : (k : List ℕ) (m : Option (List ℕ)) (cs : List (List ℕ)) → i
 in-new k None cs = refl
 in-new k (Some c) cs = new_by_known k c cs (is_in (fold_name c) cs) refl
 
--- what stays of the names whose keys are tested
+-- which names stay, where their keys are tested
 in-filter_by : (p : List ℕ → Bool) (k c : List ℕ) (cs : List (List ℕ)) (b gone : Bool) → at_key k c ≡ b → p (fold_name c) ≡ gone
     → is_in k (filter (λ d. not (p (fold_name d))) cs) ≡ (is_in k cs && not (p k))
     → is_in k (if not gone then c ∷ filter (λ d. not (p (fold_name d))) cs else filter (λ d. not (p (fold_name d))) cs) ≡ ((b || is_in k cs) && not (p k))
@@ -115,7 +115,7 @@ all-drop q zero xs e = e
 all-drop q (suc n) [] e = refl
 all-drop q (suc n) (x ∷ xs) e = all-drop q n xs (and_right (q x) _ e)
 
--- what is so of all is so of each
+-- what holds of all holds of each
 pub all-at : {A : Type 0} (q : A → Bool) (front : List A) (c : A) (back : List A) → list_all q (front ++ c ∷ back) ≡ true → q c ≡ true
 all-at q [] c back e = and_left _ _ e
 all-at q (f ∷ front) c back e = all-at q front c back (and_right _ _ e)
@@ -138,7 +138,7 @@ below-total_by x y false true r ih e f = grind (arith, nat_tests)
 below-total_by x y false false true ih e f = grind (arith, nat_tests)
 below-total_by x y false false false ih e f = absurd (let t = ih refl refl in cc)
 
--- one of two keys that are not the same comes before the other
+-- of two different keys, one comes before the other
 below-total : (a b : List ℕ) → is_below a b ≡ false → same_bytes b a ≡ false → is_below b a ≡ true
 below-total [] [] e f = cc
 below-total [] (y ∷ ys) e f = cc

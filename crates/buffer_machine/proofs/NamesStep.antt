@@ -1,4 +1,4 @@
--- The names of clients after one command more: they are all different, and each that a client has is among them.
+-- The names of clients after one more command: they are all different, and the name of each client is among them.
 use Rattle.std.proofs.Common.{◌≡◌, ℕ, suc, Bool, true, false, not, List, [], ◌∷◌, ◌++◌, map, length, refl, ap, ◌∙◌, append_assoc}
 use Rattle.std.specs.Prelude.{if◌then◌else◌, flat_map, Option, Some, None}
 use Rattle.std.specs.List.{list_any}
@@ -50,7 +50,7 @@ pub ids_differ : (s : Settings) (history : List Command) → are_new [] (ids s h
 ids_differ s [] = rw (ids-begin s) refl
 ids_differ s (x ∷ earlier) = rw (ids-more s x earlier) (new_after (takes s earlier x) (ids s earlier) x (ids_differ s earlier))
 
--- ---- each that a client has is among them
+-- ---- the name of each client is among them
 
 -- a name is among these, if there is one
 abbrev pub has_id : List (List ℕ) → Option (List ℕ) → Bool
@@ -61,7 +61,7 @@ in_last : (id : List ℕ) (was : List (List ℕ)) → is_id_in id (was ++ id ∷
 in_last id [] = rw (same_bytes-refl id) refl
 in_last id (x ∷ xs) = or_second (same_bytes id x) (is_id_in id (xs ++ id ∷ [])) (in_last id xs)
 
--- the name that a client gives is among those with it
+-- the name that a client gives is among the names once it is added
 pub given_in : (id : List ℕ) (was : List (List ℕ)) → is_id_in id (with_id (Some id) was) ≡ true
 given_in id was = by (is_id_in id was) refl
   where
@@ -124,7 +124,7 @@ here_by s h front (id ∷ ids) e =
     ap (λ b. b ∷ here_from (suc (length front)) (flat_map (λ o. holder (front ++ id ∷ ids) o (id_of s h o)) (attached s h)) ids) (any_holder front id ids (id_of s h) (attached s h) first)
     ∙ ap (λ bs. list_any (λ o. is_id id (id_of s h o)) (attached s h) ∷ bs) (rw (longer, joined) at (here_by s h (front ++ id ∷ []) ids rest))
 
--- those who are here are those whom a client has that is attached
+-- the readers who are here are the names with an attached client
 pub here-is : (s : Settings) (h : List Command) → here_of (names_held s h) ≡ map (holds s h) (ids s h)
 here-is s h = here_by s h [] (ids s h) (ids_differ s h)
 

@@ -1,4 +1,4 @@
--- What is held of a channel, and of a query, after one command more.
+-- What is held of a channel, and of a query, after one more command.
 use Rattle.std.proofs.Common.{◌≡◌, ℕ, ◌-◌, List, [], ◌∷◌, map, length, refl, ap, sym, ◌∙◌, Bool, true, false, not, ◌&&◌, ◌||◌}
 use Rattle.std.specs.Prelude.{Option, None, Some, if◌then◌else◌, codes}
 use Rattle.irc_line.specs.Names.{fold_name, is_channel}
@@ -90,7 +90,7 @@ plays_at : (s : Settings) (earlier : List Command) (x : Command) (k : List ℕ) 
     → plays (takes s earlier x) (attached s earlier) (is_channel k && detached s earlier k) k (is_known s earlier k) x ≡ plays (takes s earlier x) (attached s earlier) (detached s earlier k) k true x
 plays_at s earlier x k c i = rw (known-channel s earlier k c, i, c) refl
 
--- what is told of a channel, where a command stores nothing in it
+-- how much each name has seen of a channel, where a command stores nothing in it
 pub seen-channel : (s : Settings) → IsSound s → (earlier : List Command) (x : Command) (c told : List ℕ) → is_channel c ≡ true → is_in (fold_name c) (channels s earlier) ≡ true → is_removed s earlier (fold_name c) x ≡ false
     → stored s (fold_name c) earlier x ≡ None → size_after (attached s earlier) true (fold_name c) (size s (fold_name c) earlier) x ≡ size s (fold_name c) earlier
     → (plays (takes s earlier x) (attached s earlier) (detached s earlier (fold_name c)) (fold_name c) true x ≡ true
@@ -109,14 +109,14 @@ unsaid s earlier x k e = rw e refl
 
 -- ---- a channel that is made
 
--- of a JOIN by the own nick
+-- for a JOIN by the own nick
 join_word : (own : List ℕ) (line : Parts) → is_own (codes "JOIN") own line ≡ true → has_command (codes "JOIN") line ≡ true
 join_word own line e = and_left _ (is_by own line) (and_left _ (is_channel (parameter 0 line)) e)
 
 join_channel : (own : List ℕ) (line : Parts) → is_own (codes "JOIN") own line ≡ true → is_channel (parameter 0 line) ≡ true
 join_channel own line e = and_right (has_command (codes "JOIN") line && is_by own line) _ e
 
--- it is no PART and no KICK
+-- it is neither a PART nor a KICK
 pub no_part : (own k : List ℕ) (line : Parts) → is_own (codes "JOIN") own line ≡ true → is_own_at (codes "PART") own k line ≡ false
 no_part own k line e = rw (other_command (codes "JOIN") (codes "PART") line (join_word own line e) refl) refl
 
@@ -201,7 +201,7 @@ query_plays_at : (s : Settings) → IsSound s → (earlier : List Command) (x : 
     → plays (takes s earlier x) (attached s earlier) (is_channel k && detached s earlier k) k (is_known s earlier k) x ≡ plays (takes s earlier x) (attached s earlier) false k true x
 query_plays_at s sound earlier x k c i = rw (known-query s sound earlier k c, i, c) refl
 
--- what is told of a query, where a command stores nothing in it
+-- how much each name has seen of a query, where a command stores nothing in it
 pub seen-query : (s : Settings) → IsSound s → (earlier : List Command) (x : Command) (q told : List ℕ) → is_query_name q ≡ true → is_in (fold_name q) (queries s earlier) ≡ true → is_in (fold_name q) (queries s (x ∷ earlier)) ≡ true
     → stored s (fold_name q) earlier x ≡ None → size_after (attached s earlier) true (fold_name q) (size s (fold_name q) earlier) x ≡ size s (fold_name q) earlier
     → (plays (takes s earlier x) (attached s earlier) false (fold_name q) true x ≡ true
@@ -223,7 +223,7 @@ not_pushed : (s : Settings) (earlier : List Command) (x : Command) (k : List ℕ
 unfolding is_pushed_out
 not_pushed s earlier x k u = rw u refl
 
--- the size that a query begins with
+-- the size with which a query begins
 pub query-size-made : (s : Settings) → IsSound s → (earlier : List Command) (x : Command) (k : List ℕ) → is_channel k ≡ false → is_in k (queries s earlier) ≡ false
     → ((b : Bool) (n : ℕ) → size_after (attached s earlier) b k n x ≡ n) → size s k (x ∷ earlier) ≡ s.query_size
 query-size-made s sound earlier x k c u h =
@@ -240,14 +240,14 @@ here_now s h false (id ∷ is) e = ap (λ b. b ∷ map (holds s h) is) (sym (and
 pub shown_here : (s : Settings) (h : List Command) (k : List ℕ) → is_channel k ≡ false → here_of (names_held s h) ≡ map (λ id. holds s h id && not (is_channel k && detached s h k)) (ids s h)
 shown_here s h k c = here-is s h ∙ here_now s h (is_channel k && detached s h k) (ids s h) (rw c refl)
 
--- what a command does that does nothing but that it stores its line
+-- a command that does nothing except that its line is stored
 pub record StoresAlone (s : Settings) (earlier : List Command) (x : Command) : Type 0 where
   pub plays_none : (det known : Bool) (k : List ℕ) → plays (takes s earlier x) (attached s earlier) det k known x ≡ false
   pub clears_none : (c known : Bool) (k : List ℕ) → is_cleared (attached s earlier) c k known x ≡ false
   pub sizes_none : (b : Bool) (k : List ℕ) (n : ℕ) → size_after (attached s earlier) b k n x ≡ n
   pub names_none : ids s (x ∷ earlier) ≡ ids s earlier
 
--- and so it empties no target that it does not remove
+-- it therefore empties no target that it does not remove
 pub stores-empties : (s : Settings) (earlier : List Command) (x : Command) (k : List ℕ) → StoresAlone s earlier x → removes_target s earlier k x ≡ false → emptied s k earlier x ≡ false
 unfolding emptied
 stores-empties s earlier x k a r =

@@ -1,4 +1,4 @@
--- What nobody sees, and what was played and kept, by whether a name is known.
+-- What nobody sees, and what was played and kept, by whether any name is known.
 use Rattle.std.proofs.Common.{◌≡◌, ℕ, ◌≤◌, Bool, true, false, not, List, [], ◌∷◌, length, take, refl, sym, ap, arith}
 use Rattle.std.specs.Prelude.{if◌then◌else◌, replicate, map, Option, Some, None}
 use Rattle.irc_line.specs.Lines.{Parts}
@@ -44,14 +44,14 @@ open_by_none (c ∷ cs) = same_first c.detached c (open_seen [] cs) cs (open_by_
     same_first true c xs ys e = ap (λ zs. c ∷ zs) e
     same_first false c xs ys e = ap (λ zs. c ∷ zs) e
 
--- where no name is known, those who are here are none
+-- if no name is known, no reader is here
 pub here_none : (hs : List (Origin × ℕ)) (ids : List (List ℕ)) → not (is_some_of ids) ≡ true → here_from 0 hs ids ≡ []
 here_none hs [] e = refl
 here_none hs (x ∷ xs) e = cc
 
 -- ---- what was played of a target
 
--- where no name is known, it is emptied where playing empties it
+-- while no name is known, a target that is played is emptied where the setup says so
 pub played_emptied_channel : (clears : Bool) (names : Names) (key : List ℕ) (cs : List ChannelLines) → not (is_some_of names.ids) ≡ true
     → (if clears then at_channel key (over cleared) cs else cs) ≡ at_channel key (over (after_play (clears_now clears names) [])) cs
 played_emptied_channel true names key cs e = rw e refl
@@ -93,7 +93,7 @@ nobody_taken n ids e h =
     let few : length ids ≤ 64 = omega (arith, e, h) in
     rw (e, ← flags_none 0 64) (flags_taken 0 64 [] ids few)
 
--- a channel attached again, by whether a name is known
+-- a channel attached again, by whether any name is known
 pub again_known : (clears : Bool) (names : Names) (key : List ℕ) (cs seen : List ChannelLines) (found : Option ChannelLines) → is_detached found ≡ true → not (is_some_of names.ids) ≡ false
     → seen ≡ at_channel key (over (seen_all (here_of names))) (at_channel key (with_detached false) cs) → seen ≡ attached_again clears names key cs found
 again_known clears names key cs seen found d n e = rw (d, no_clearing clears names n, e) refl

@@ -1,4 +1,4 @@
--- What each command does to one channel is what is held of it next.
+-- What each command does to one channel gives what is held of it next.
 use Rattle.std.proofs.Common.{◌≡◌, ℕ, suc, ◌-◌, ◌≤◌, List, length, refl, ap, Bool, true, false, not, ◌&&◌, ◌||◌}
 use Rattle.std.specs.Prelude.{Option, Some, None, if◌then◌else◌}
 use Rattle.irc_line.specs.Lines.{Parts}
@@ -13,7 +13,7 @@ use Rattle.irc_line.proofs.Booleans.{and_false}
 abbrev pub one : List ℕ → List (ℕ × Parts) → ℕ → List ℕ → Bool → Bool → ChannelLines
 one c ks n seen j d = channel (target c (ring ks n) seen) j d
 
--- after one command more
+-- after one more command
 abbrev pub upon : List ℕ → List (ℕ × Parts) → ℕ → Bool → Option (ℕ × Parts) → List ℕ → Bool → Bool → ChannelLines
 upon c ks n e o seen j d = channel (target c (ring (next n ks e o) n) seen) j d
 
@@ -96,7 +96,7 @@ module _ (c : List ℕ) (ks : List (ℕ × Parts)) (n : ℕ) (f : length ks ≤ 
   detach_one j true false clears k q = same c ks n f was new j true (clears && false) (and_false clears) q
   detach_one j false false clears k q = same c ks n f was new j false (clears && false) (and_false clears) q
 
-  -- a detached channel, attached again where it is the one of the key
+  -- a detached channel, attached again if it is the one with the key
   abbrev pub again : Bool → Bool → Bool → List Bool → Bool → ChannelLines → ChannelLines
   again asks det clears here k x = if asks && det then (if k then over (after_play clears here) (with_detached false x) else x) else x
 

@@ -1,4 +1,4 @@
--- What each command does to one query is what is held of it next.
+-- What each command does to one query gives what is held of it next.
 use Rattle.std.proofs.Common.{◌≡◌, ℕ, suc, ◌-◌, ◌≤◌, List, length, refl, Bool, true, false, not, ◌&&◌, ◌||◌}
 use Rattle.std.specs.Prelude.{Option, Some, None, if◌then◌else◌}
 use Rattle.irc_line.specs.Lines.{Parts}
@@ -10,7 +10,7 @@ use Rattle.buffer_machine.proofs.Pointwise.{quiet, empty, sized, pushed_if}
 use Rattle.buffer_machine.proofs.SeenLists.{pushed_length}
 use Rattle.irc_line.proofs.Booleans.{and_false}
 
--- a query after one command more
+-- a query after one more command
 abbrev pub following : List ℕ → List (ℕ × Parts) → ℕ → Bool → Option (ℕ × Parts) → List ℕ → TargetLines
 following c ks n e o seen = target c (ring (next n ks e o) n) seen
 

@@ -1,4 +1,4 @@
--- The kept lines with their places: they rise, and what a name has not seen is behind what it has seen.
+-- The kept lines with their places: the places rise, and what a name has not seen comes after what it has seen.
 use Rattle.std.proofs.Common.{◌≡◌, ℕ, zero, suc, ◌-◌, ◌<◌, ◌≤◌, Bool, true, false, not, ◌&&◌, List, [], ◌∷◌, ◌++◌, map, length, drop, refl, sym, ap, ◌∙◌, arith}
 use Rattle.std.specs.Prelude.{Option, Some, None, if◌then◌else◌, nat_le, nat_lt, filter, option_map}
 use Rattle.std.specs.List.{list_all}
@@ -105,7 +105,7 @@ places-within s (x ∷ earlier) t =
     (within_front (suc (length earlier)) (emptied s t earlier x) (placed s earlier t) (within_more (length earlier) (suc (length earlier)) (placed s earlier t) (omega arith) (places-within s earlier t)))
     (within_one (suc (length earlier)) (stored s t earlier x))))
 
--- each place is at most those behind it
+-- each place is at most those after it
 abbrev pub do_rise : List Placed → Bool
 do_rise [] = true
 do_rise (k ∷ ks) = list_all (λ j. nat_le k.0 j.0) ks && do_rise ks
@@ -144,7 +144,7 @@ places-rise s (x ∷ earlier) t =
     (within_front (length earlier) (emptied s t earlier x) (placed s earlier t) (places-within s earlier t))
     (rise_front (emptied s t earlier x) (placed s earlier t) (places-rise s earlier t))))
 
--- ---- what is above a place is behind what is not
+-- ---- the lines above a place come after those that are not
 
 pub all_above : (m n : ℕ) (ks : List Placed) → nat_lt m n ≡ true → list_all (λ j. nat_le n j.0) ks ≡ true → filter (λ k. nat_lt m k.0) ks ≡ ks
 all_above m n [] h e = refl
@@ -169,7 +169,7 @@ pub above_is_behind : (m : ℕ) (ks : List Placed) → do_rise ks ≡ true → f
 above_is_behind m [] e = refl
 above_is_behind m (k ∷ ks) e = split_by m k ks (nat_lt m k.0) refl (and_left _ _ e) (above_is_behind m ks (and_right _ _ e))
 
--- what a name has not seen is what stands behind so many lines as it has seen
+-- what a name has not seen is what follows the lines that it has seen
 pub unseen_behind : (s : Settings) (history : List Command) (id t : List ℕ) → unseen s history id t ≡ drop (seen s history id t) (kept s history t)
 unfolding unseen seen
 unseen_behind s history id t =
@@ -190,7 +190,7 @@ pub mark-seen : (s : Settings) (earlier : List Command) (id t : List ℕ) (x : C
 unfolding mark
 mark-seen s earlier id t x e = rw e refl
 
--- a name that sees a target at a command has nothing of it to see after it
+-- a name that sees a target at a command has nothing left to see in it after that
 pub seen-all : (s : Settings) (earlier : List Command) (x : Command) (id t : List ℕ) → sees s earlier id t x ≡ true → unseen s (x ∷ earlier) id t ≡ []
 unfolding unseen
 seen-all s earlier x id t e =
@@ -207,11 +207,11 @@ pub comes : (s : Settings) (earlier : List Command) (o : Origin) (at : ℕ) (id 
 unfolding sees
 comes s earlier o at id t h k d = rw (d, h, k, same_bytes-refl id) (or_true (holds s earlier id && true))
 
--- a name by which a client attaches has seen all that there is then
+-- a name by which a client attaches has seen all that there is at that time
 pub comes_now : (s : Settings) (earlier : List Command) (o : Origin) (at : ℕ) (id t : List ℕ) → takes s earlier (Client o at (Attach (Some id))) ≡ true → is_known s earlier t ≡ true → (is_channel t && detached s earlier t) ≡ false → unseen s (Client o at (Attach (Some id)) ∷ earlier) id t ≡ []
 comes_now s earlier o at id t h k d = seen-all s earlier (Client o at (Attach (Some id))) id t (comes s earlier o at id t h k d)
 
--- ---- how many a name has seen after one command more
+-- ---- how many a name has seen after one more command
 
 pub mark-more : (s : Settings) (id t : List ℕ) (x : Command) (earlier : List Command) → mark s id t (x ∷ earlier) ≡ (if sees s earlier id t x then suc (length earlier) else mark s id t earlier)
 unfolding mark
@@ -245,7 +245,7 @@ low_drop_by m n k ks false h e ih =
     let less : suc (length (low m ks)) - suc n ≡ length (low m ks) - n = omega arith in
     ih ∙ sym less
 
--- where the first so many go, so many fewer are low
+-- where the first lines go, there are that many fewer low ones
 pub low_drop : (m n : ℕ) (ks : List Placed) → do_rise ks ≡ true → length (low m (drop n ks)) ≡ length (low m ks) - n
 low_drop m zero ks e = let less : length (low m ks) - 0 ≡ length (low m ks) = omega arith in sym less
 low_drop m (suc n) [] e = let less : 0 - suc n ≡ 0 = omega arith in sym less
@@ -262,7 +262,7 @@ low_front : (m : ℕ) (b : Bool) (ks : List Placed) → length (low m (if b then
 low_front m true ks = refl
 low_front m false ks = refl
 
--- what a name has seen is so many fewer as lines went, where it does not see the target at the command
+-- a name has seen fewer lines by those that were dropped, unless it sees the target at the command
 pub seen-next : (s : Settings) (earlier : List Command) (x : Command) (id t : List ℕ) → sees s earlier id t x ≡ false
     → seen s (x ∷ earlier) id t
     ≡ (if emptied s t earlier x then 0 else seen s earlier id t) - (length ((if emptied s t earlier x then [] else placed s earlier t) ++ if_kept true (stored_at s t earlier x)) - size s t (x ∷ earlier))

@@ -1,4 +1,4 @@
--- What is played of what is held is what is played of the history.
+-- What is played back from what is held is what the definitions play back from the history.
 use Rattle.std.proofs.Common.{◌≡◌, ℕ, List, [], ◌∷◌, ◌++◌, refl, ap, ◌∙◌, sym, Bool, true, false, ◌||◌, subst}
 use Rattle.std.specs.Prelude.{Option, Some, None, if◌then◌else◌, find, unwrap_or, codes}
 use Rattle.irc_line.specs.Names.{fold_name}
@@ -34,7 +34,7 @@ made-both : (s : Settings) (history : List Command) (k : List ℕ)
 unfolding made_as targets
 made-both s history k = ap (λ o. unwrap_or o k) (find-append k (channels s history) (queries s history))
 
--- the playback of a key, by where it is known
+-- the playback of a key, by whether it is a channel or a query
 pub playback-both : (s : Settings) (history : List Command) (k : List ℕ)
     → playback s history k
     ≡ (if is_in k (channels s history) || is_in k (queries s history)
@@ -58,7 +58,7 @@ pub played_by-both : (s : Settings) (history : List Command) (n : Option (List �
     then framed s.offset (unwrap_or (if is_in k (channels s history) then find (at_key k) (channels s history) else find (at_key k) (queries s history)) k) (lines_by s history n k) else [])
 played_by-both s history n k = made_played s history n k ∙ rw (known-both s history k, made-both s history k) refl
 
--- of a channel to a client
+-- a channel is played to a client
 pub played_by-channel : (s : Settings) → IsSound s → (history : List Command) (n : Option (List ℕ)) (front : List (List ℕ)) (c : List ℕ) (back : List (List ℕ)) → channels s history ≡ front ++ c ∷ back
     → playback_by s history n (fold_name c) ≡ framed s.offset c (lines_by s history n (fold_name c))
 played_by-channel s sound history n front c back e =
@@ -66,7 +66,7 @@ played_by-channel s sound history n front c back e =
     let own : find (at_key (fold_name c)) (channels s history) ≡ Some c = subst (λ cs. find (at_key (fold_name c)) cs ≡ Some c) (sym e) (find-own front c back (subst (λ cs. are_rising cs ≡ true) e (channels-rise s sound history))) in
     played_by-both s history n (fold_name c) ∙ rw (here, own) refl
 
--- of a query to a client
+-- a query is played to a client
 pub played_by-query : (s : Settings) (history : List Command) (n : Option (List ℕ)) (front : List (List ℕ)) (q : List ℕ) (back : List (List ℕ)) → queries s history ≡ front ++ q ∷ back → is_in (fold_name q) (channels s history) ≡ false
     → playback_by s history n (fold_name q) ≡ framed s.offset q (lines_by s history n (fold_name q))
 played_by-query s history n front q back e u =
@@ -78,7 +78,7 @@ seen_by : (s : Settings) (history : List Command) (id k : List ℕ) (b : Bool) �
 seen_by s history id k true e = for_known (λ i. seen s history i k) id 64 (ids s history) (few_ids s history) e
 seen_by s history id k false e = for_unknown (λ i. seen s history i k) id 64 (ids s history) e ∙ sym (seen_unknown s history id k e)
 
--- what is held tells what a name has not seen
+-- what is held determines what a name has not seen
 pub played-lines : (s : Settings) (history : List Command) (n : Option (List ℕ)) (k name : List ℕ) → played_to s.offset (place (ids s history) n) (target name (ring (kept s history k) (size s k history)) (seen_held s history k)) ≡ framed s.offset name (lines_by s history n k)
 played-lines s history None k name = refl
 played-lines s history (Some id) k name =
@@ -88,7 +88,7 @@ pub standing-is : (n : Option (List ℕ)) (is : List (List ℕ)) → standing n 
 standing-is None is = refl
 standing-is (Some id) is = refl
 
--- of a channel
+-- for a channel
 pub playback-channel : (s : Settings) → IsSound s → (history : List Command) (front : List (List ℕ)) (c : List ℕ) (back : List (List ℕ)) → channels s history ≡ front ++ c ∷ back
     → playback s history (fold_name c) ≡ framed s.offset c (kept s history (fold_name c))
 playback-channel s sound history front c back e =
@@ -96,7 +96,7 @@ playback-channel s sound history front c back e =
     let own : find (at_key (fold_name c)) (channels s history) ≡ Some c = subst (λ cs. find (at_key (fold_name c)) cs ≡ Some c) (sym e) (find-own front c back (subst (λ cs. are_rising cs ≡ true) e (channels-rise s sound history))) in
     playback-both s history (fold_name c) ∙ rw (here, own) refl
 
--- of a query
+-- for a query
 pub playback-query : (s : Settings) (history : List Command) (front : List (List ℕ)) (q : List ℕ) (back : List (List ℕ)) → queries s history ≡ front ++ q ∷ back → is_in (fold_name q) (channels s history) ≡ false
     → playback s history (fold_name q) ≡ framed s.offset q (kept s history (fold_name q))
 playback-query s history front q back e u =
@@ -128,7 +128,7 @@ status_by s history o k true q = refl
 status_by s history o k false true = refl
 status_by s history o k false false = refl
 
--- what is answered to one who asks for a target
+-- the answer to a client that asks for a target
 pub asked-is : (s : Settings) (history : List Command) (o : Origin) (k : List ℕ)
     → played_or_status s (held s history) o (target_of_key k (held s history)) ≡ (if is_known s history k then show_all o (playback s history k) else status (held s history).nick o (codes "No such target."))
 asked-is s history o k =

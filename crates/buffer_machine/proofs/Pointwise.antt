@@ -1,4 +1,4 @@
--- One channel, and one query, through a step: what the machine does to it is what is held of it next.
+-- One step, for one channel and for one query: what the machine does to it gives what is held of it next.
 use Rattle.std.proofs.Common.{◌≡◌, ℕ, suc, ◌-◌, ◌≤◌, List, [], ◌∷◌, ◌++◌, map, length, refl, ap, sym, ◌∙◌, Bool, true, false}
 use Rattle.std.specs.Prelude.{Option, Some, None, if◌then◌else◌}
 use Rattle.circular_buffer.specs.Buffer.{keep_last}
@@ -11,7 +11,7 @@ use Rattle.buffer_lines.proofs.Keeping.{keep_last-nil}
 use Rattle.buffer_machine.proofs.SeenLists.{pushed_length}
 
 module _ (c : List ℕ) (ks : List (ℕ × Parts)) (n : ℕ) (fits : length ks ≤ n) (was new : List ℕ) where
-  -- after one command more, by the size, whether it is emptied, what is stored, and how much each name has seen then
+  -- after one more command, by the size, whether it is emptied, what is stored, and how much each name has seen then
   abbrev pub later : ℕ → Bool → Option (ℕ × Parts) → TargetLines
   later m e o = target c (ring (next m ks e o) m) new
 

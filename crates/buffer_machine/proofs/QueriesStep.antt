@@ -1,4 +1,4 @@
--- One step of the machine holds the queries of a history.
+-- The machine holds the queries of a history after one step.
 use Rattle.std.proofs.Common.{◌≡◌, ℕ, zero, suc, ◌-◌, ◌≤◌, List, [], ◌∷◌, ◌++◌, map, drop, length, refl, ap, ◌∙◌, sym, Bool, true, false, not, ◌&&◌, ◌||◌, subst}
 use Rattle.std.specs.Prelude.{Option, Some, None, if◌then◌else◌}
 use Rattle.std.specs.List.{list_all, list_any}
@@ -37,7 +37,7 @@ pub same_names : (s : Settings) (earlier : List Command) (x : Command) → with_
 same_names s earlier x m =
     queries-more s earlier x ∙ (ap (newest s.most_queries) m ∙ newest-all s.most_queries (queries s earlier) (queries-fit s earlier))
 
--- each query changed by itself
+-- each query is changed by itself
 pub mapped_query : (s : Settings) → IsSound s → (earlier : List Command) (x : Command) (g : TargetLines → TargetLines) → with_new (stored_query s earlier x) (queries s earlier) ≡ queries s earlier
     → ((q : List ℕ) → is_query_name q ≡ true → is_in (fold_name q) (queries s earlier) ≡ true → is_in (fold_name q) (queries s (x ∷ earlier)) ≡ true
     → g (target_held s earlier q) ≡ next_query s earlier x (target_held s earlier q))
@@ -80,7 +80,8 @@ fits s earlier q = kept_fits s earlier (fold_name q)
 abbrev pub empties_queries : Settings → List Command → Command → Bool
 empties_queries s earlier x = s.clears_queries && empties (ids s earlier) x
 
--- a command that stores nothing in a query and plays it to nobody tells no name of more
+-- a command that stores nothing in a query and plays it to nobody does not change how much any name
+-- has seen
 pub query_told : (s : Settings) → IsSound s → (earlier : List Command) (x : Command) (q : List ℕ) → is_query_name q ≡ true → is_in (fold_name q) (queries s earlier) ≡ true → is_in (fold_name q) (queries s (x ∷ earlier)) ≡ true
     → stored s (fold_name q) earlier x ≡ None → size_after (attached s earlier) true (fold_name q) (size s (fold_name q) earlier) x ≡ size s (fold_name q) earlier → plays (takes s earlier x) (attached s earlier) false (fold_name q) true x ≡ false
     → (if query_empties s earlier (fold_name q) x then none_seen else seen_held s earlier (fold_name q)) ≡ seen_held s (x ∷ earlier) (fold_name q)
@@ -88,7 +89,7 @@ query_told s sound earlier x q f i j o z p =
     ap (λ told. if query_empties s earlier (fold_name q) x then none_seen else told) (either_way (plays (takes s earlier x) (attached s earlier) false (fold_name q) true x) (seen_held s earlier (fold_name q)))
     ∙ seen-query s sound earlier x q (seen_held s earlier (fold_name q)) f i j o z (λ e. absurd (let both : false ≡ true = sym p ∙ e in cc))
 
--- nor does one that stores its line, but of the query that it stores it in
+-- nor does one that stores a line, except in the query where it is stored
 store_query_told : (s : Settings) → IsSound s → (earlier : List Command) (x : Command) (line : ℕ × Parts) (c : List ℕ) (b : Bool) → StoresAlone s earlier x → is_query_name c ≡ true → is_in (fold_name c) (queries s earlier) ≡ true → is_in (fold_name c) (queries s (x ∷ earlier)) ≡ true
     → stored s (fold_name c) earlier x ≡ (if b then Some line else None)
     → (if b then counted (pushed_length (size s (fold_name c) earlier) (kept s earlier (fold_name c)) line) (suc (length (kept s earlier (fold_name c))) - pushed_length (size s (fold_name c) earlier) (kept s earlier (fold_name c)) line)
@@ -107,7 +108,7 @@ not_stored : (s : Settings) → IsSound s → (earlier : List Command) (x : Comm
     → stored s (fold_name c) earlier x ≡ None → (if empties_queries s earlier x && false then none_seen else seen_held s earlier (fold_name c)) ≡ seen_held s (x ∷ earlier) (fold_name c)
 not_stored s sound earlier x c a f i j o = rw (and_false (empties_queries s earlier x)) (store_query_told s sound earlier x (0, line_of [] [] []) c false a f i j o)
 
--- a command that does nothing to the queries
+-- a command that does not affect the queries
 pub quiet_queries : (s : Settings) → IsSound s → (earlier : List Command) (x : Command) → said (attached s earlier) (nick s earlier) x ≡ None
     → ((q : List ℕ) → is_query_name q ≡ true → is_in (fold_name q) (queries s earlier) ≡ true → is_in (fold_name q) (queries s (x ∷ earlier)) ≡ true → target_held s earlier q ≡ next_query s earlier x (target_held s earlier q))
     → map (target_held s earlier) (queries s earlier) ≡ map (target_held s (x ∷ earlier)) (queries s (x ∷ earlier))
@@ -115,7 +116,7 @@ quiet_queries s sound earlier x e h = unmapped_query s sound earlier x (nothing_
 
 -- ---- a line stored
 
--- a command that does nothing to the queries but that it stores its line
+-- a command that does nothing to the queries except that its line is stored
 abbrev IsStoring : Settings → List Command → Command → Type 0
 IsStoring s earlier x =
     ((q : List ℕ) → next_query s earlier x (target_held s earlier q)
@@ -132,7 +133,7 @@ none_made k m o e = rw e (no_line o)
 other_made : (k q : List ℕ) (m : Option (List ℕ)) (o : Option (ℕ × Parts)) → m ≡ Some q → at_key k q ≡ false → line_if (is_made_at k m) o ≡ None
 other_made k q m o e f = rw (e, f) (no_line o)
 
--- a line that goes to no query
+-- a line that goes into no query
 other_query : (s : Settings) → IsSound s → (earlier : List Command) (x : Command) → IsStoring s earlier x → stored_query s earlier x ≡ None
     → map (target_held s earlier) (queries s earlier) ≡ map (target_held s (x ∷ earlier)) (queries s (x ∷ earlier))
 other_query s sound earlier x i m =
@@ -145,7 +146,7 @@ any_query : (s : Settings) (history : List Command) (k : List ℕ) (qs : List (L
 any_query s history k [] = refl
 any_query s history k (q ∷ qs) = ap (λ b. at_key k q || b) (any_query s history k qs)
 
--- a line for a query that is there
+-- a line for a query that exists
 known_query : (s : Settings) → IsSound s → (earlier : List Command) (x : Command) (q : List ℕ) (line : ℕ × Parts) → IsStoring s earlier x → stored_query s earlier x ≡ Some q → said (attached s earlier) (nick s earlier) x ≡ Some line
     → is_in (fold_name q) (queries s earlier) ≡ true
     → at_query (fold_name q) (pushed line (here_of (names_held s earlier))) (map (target_held s earlier) (queries s earlier)) ≡ map (target_held s (x ∷ earlier)) (queries s (x ∷ earlier))
@@ -201,7 +202,7 @@ one_made s sound earlier x q line i m l f u c g still h false e =
     ∙ (sym (i.0 c ∙ ap (λ o. following c (kept s earlier (fold_name c)) (size s (fold_name c) earlier) (empties_queries s earlier x && false) o (seen_held s (x ∷ earlier) (fold_name c))) (other_made (fold_name c) q (stored_query s earlier x) (said (attached s earlier) (nick s earlier) x) m e))
     ∙ sym (query-next s sound earlier x c g here still))
 
--- a line for a query that is made by it
+-- a line that makes a new query
 new_query : (s : Settings) → IsSound s → (earlier : List Command) (x : Command) (q : List ℕ) (line : ℕ × Parts) → IsStoring s earlier x → stored_query s earlier x ≡ Some q → said (attached s earlier) (nick s earlier) x ≡ Some line
     → is_query_name q ≡ true → is_in (fold_name q) (queries s earlier) ≡ false
     → newest s.most_queries (map (target_held s earlier) (queries s earlier) ++ pushed line (here_of (names_held s earlier)) (target q (ring [] s.query_size) none_seen) ∷ []) ≡ map (target_held s (x ∷ earlier)) (queries s (x ∷ earlier))
@@ -227,7 +228,7 @@ stored_by : (s : Settings) → IsSound s → (earlier : List Command) (x : Comma
 stored_by s sound earlier x q line true i m l f u = known_query s sound earlier x q line i m l u
 stored_by s sound earlier x q line false i m l f u = new_query s sound earlier x q line i m l f u
 
--- the query that a line goes to
+-- the query into which a line goes
 query_if : (keep storable known query : Bool) (q : List ℕ) → (if keep then (if storable && not known && query then Some q else None) else None) ≡ (if storable && not known && keep && query then Some q else None)
 query_if true true true query q = refl
 query_if true true false query q = refl

@@ -20,7 +20,7 @@ flags_taken i n holders [] h = refl
 flags_taken i zero holders (id ∷ ids) h = absurd (omega (arith, h))
 flags_taken i (suc n) holders (id ∷ ids) h = ap (λ bs. list_any (λ x. x.1 == i) holders ∷ bs) (flags_taken (suc i) n holders ids (omega (arith, h)))
 
--- nobody is a reader where nobody is attached
+-- nobody is a reader if nobody is attached
 pub flags_none : (i n : ℕ) → flags_from i n [] ≡ replicate n false
 flags_none i zero = refl
 flags_none i (suc n) = ap (λ bs. false ∷ bs) (flags_none (suc i) n)
@@ -45,14 +45,14 @@ or_true_left : (b c : Bool) → c ≡ true → (b || c) ≡ true
 or_true_left true c e = refl
 or_true_left false c e = e
 
--- those above a place are as they were, where one more is reader of a place below them
+-- readers above a place are unchanged where one more client gets a reader below them
 flags_above : (i n j : ℕ) (o : Origin) (holders : List (Origin × ℕ)) → j < i → flags_from i n (holders ++ (o, j) ∷ []) ≡ flags_from i n holders
 flags_above i zero j o holders h = refl
 flags_above i (suc n) j o holders h =
     let other : (j == i) ≡ false = grind (arith, nat_tests) in
     rw (any_more i j o holders, or_false_left (list_any (λ x. x.1 == i) holders) (j == i) other, flags_above (suc i) n j o holders (omega (arith, h))) refl
 
--- one more who is a reader
+-- one more client with a reader
 pub flags_more : (i n k : ℕ) (o : Origin) (holders : List (Origin × ℕ)) → k < n → set (flags_from i n holders) k true ≡ flags_from i n (holders ++ (o, i + k) ∷ [])
 flags_more i zero k o holders h = absurd (omega (arith, h))
 flags_more i (suc n) zero o holders h =
@@ -67,7 +67,7 @@ flags_more i (suc n) (suc k) o holders h =
 pub flags_one_more : (n k : ℕ) (o : Origin) (holders : List (Origin × ℕ)) → k < n → set (flags_from 0 n holders) k true ≡ flags_from 0 n (holders ++ (o, k) ∷ [])
 flags_one_more n k o holders h = let e : 0 + k ≡ k = omega arith in rw e at (flags_more 0 n k o holders h)
 
--- ---- where names stand
+-- ---- the places of names
 
 within_by : (b : Bool) (i n : ℕ) → i ≤ n → (if b then 0 else suc i) ≤ suc n
 within_by true i n h = omega arith
@@ -85,17 +85,17 @@ new_by : (id : List ℕ) (xs : List (List ℕ)) (b : Bool) → (b || is_id_in id
 new_by id xs true f ih = cc
 new_by id xs false f ih = ap suc (ih f)
 
--- a name that is there stands below all that come
+-- a name that is already there has a place below all new ones
 pub index_known : (id : List ℕ) (ids : List (List ℕ)) → is_id_in id ids ≡ true → index_in id ids < length ids
 index_known id [] e = cc
 index_known id (x ∷ xs) e = known_by id xs (same_bytes id x) e (index_known id xs)
 
--- and one that is not there stands behind all
+-- and a new name comes after all
 pub index_new : (id : List ℕ) (ids : List (List ℕ)) → is_id_in id ids ≡ false → index_in id ids ≡ length ids
 index_new id [] e = refl
 index_new id (x ∷ xs) e = new_by id xs (same_bytes id x) e (index_new id xs)
 
--- ---- holders stand below
+-- ---- holders have lower places
 
 pub below_more : (m n : ℕ) (holders : List (Origin × ℕ)) → m ≤ n → stand_below m holders ≡ true → stand_below n holders ≡ true
 below_more m n [] h e = refl
@@ -118,16 +118,16 @@ below_push n k o [] h e = let here : nat_lt k n ≡ true = grind (arith, nat_tes
 below_push n k o (x ∷ xs) h e =
     rw (and_left (nat_lt x.1 n) (stand_below n xs) e) (below_push n k o xs h (and_right (nat_lt x.1 n) (stand_below n xs) e))
 
--- ---- looking through
+-- ---- searching
 
--- the name is found
+-- the name is found here
 pub index_hit : (id : List ℕ) (ids : List (List ℕ)) (i : ℕ) (d : List ℕ) → i < length ids → index_in id ids ≡ i + index_in id (drop i ids) → same_bytes id (get_or ids i d) ≡ true → index_in id ids ≡ i
 index_hit id ids i d h e same =
     let cons : drop i ids ≡ get_or ids i d ∷ drop (suc i) ids = drop-cons ids i d h in
     let zero_more : i + 0 ≡ i = omega arith in
     e ∙ (ap (λ xs. i + index_in id xs) cons ∙ rw same zero_more)
 
--- or stands behind
+-- or further on
 pub index_miss : (id : List ℕ) (ids : List (List ℕ)) (i : ℕ) (d : List ℕ) → i < length ids → index_in id ids ≡ i + index_in id (drop i ids) → same_bytes id (get_or ids i d) ≡ false → index_in id ids ≡ (i + 1) + index_in id (drop (i + 1) ids)
 index_miss id ids i d h e same =
     let cons : drop i ids ≡ get_or ids i d ∷ drop (suc i) ids = drop-cons ids i d h in
@@ -136,14 +136,14 @@ index_miss id ids i d h e same =
     let miss : index_in id (get_or ids i d ∷ drop (suc i) ids) ≡ suc (index_in id (drop (suc i) ids)) = rw same refl in
     e ∙ (ap (λ xs. i + index_in id xs) cons ∙ (ap (λ n. i + n) (miss ∙ ap (λ n. suc (index_in id (drop n ids))) next) ∙ one_more))
 
--- or nowhere
+-- or not at all
 pub index_end : (id : List ℕ) (ids : List (List ℕ)) (i : ℕ) → length ids ≤ i → index_in id ids ≡ i + index_in id (drop i ids) → index_in id ids ≡ i
 index_end id ids i h e =
     let none : drop i ids ≡ [] = drop_of_length-le ids h in
     let zero_more : i + 0 ≡ i = omega arith in
     e ∙ (ap (λ xs. i + index_in id xs) none ∙ zero_more)
 
--- the same of clients
+-- the same for clients
 pub holder_hit : (o : Origin) (hs : List (Origin × ℕ)) (i : ℕ) (d : Origin × ℕ) → i < length hs → index_of o hs ≡ index_of o (drop i hs) → same_origin o (get_or hs i d).0 ≡ true → index_of o hs ≡ Some ((get_or hs i d).1)
 holder_hit o hs i d h e same =
     let cons : drop i hs ≡ get_or hs i d ∷ drop (suc i) hs = drop-cons hs i d h in
@@ -159,7 +159,7 @@ holder_miss o hs i d h e same =
 pub holder_end : (o : Origin) (hs : List (Origin × ℕ)) (i : ℕ) → length hs ≤ i → index_of o hs ≡ index_of o (drop i hs) → index_of o hs ≡ None
 holder_end o hs i h e = e ∙ ap (index_of o) (drop_of_length-le hs h)
 
--- one client more of those that are readers
+-- one more client of those that have a reader
 pub below_at : (n : ℕ) (hs : List (Origin × ℕ)) (i : ℕ) (d : Origin × ℕ) → stand_below n hs ≡ true → i < length hs → (get_or hs i d).1 < n
 below_at n [] i d e h = absurd (omega (arith, h))
 below_at n (x ∷ xs) zero d e h =
@@ -209,7 +209,7 @@ room_for id ids m h = by (is_id_in id ids) refl m
     by true e f = absurd (let g = index_known id ids e in omega (arith, g, h))
     by false e f = grind (arith, nat_tests)
 
--- whether there is room, by where the name stands
+-- whether there is room, by the place of the name
 pub room_by : (id : List ℕ) (ids : List (List ℕ)) → 64 ≤ length ids → nat_lt (index_in id ids) (length ids) ≡ may_name ids (Some id)
 room_by id ids h = by (is_id_in id ids) refl
   where
@@ -220,7 +220,7 @@ room_by id ids h = by (is_id_in id ids) refl
     by true e = let f = index_known id ids e in grind (arith, nat_tests)
     by false e = let f = index_new id ids e in rw full (grind (arith, nat_tests))
 
--- where no name is known, nobody has one
+-- if no name is known, nobody has one
 pub below_none : (hs : List (Origin × ℕ)) → stand_below 0 hs ≡ true → hs ≡ []
 below_none [] e = refl
 below_none (x ∷ xs) e =

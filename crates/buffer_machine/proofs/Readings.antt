@@ -1,4 +1,4 @@
--- What a reader can check the definitions by.
+-- What a reader can check the definitions against.
 use Rattle.std.proofs.Common.{◌≡◌, ℕ, Bool, true, false, not, ◌&&◌, ◌||◌, List, [], ◌∷◌, refl, ap, ◌∙◌, sym}
 use Rattle.std.specs.Prelude.{None, if◌then◌else◌, filter}
 use Rattle.irc_line.specs.Names.{fold_name, is_channel}
@@ -72,7 +72,7 @@ emptied_played s earlier x t e g f =
     let middle : (clears s t && empties (ids s earlier) x && plays_now s earlier x t) ≡ true = rw (e, g, f) refl in
     or_true _ _ _ middle
 
--- what plays says nothing
+-- a command that plays says nothing
 unsaid : (s : Settings) (earlier : List Command) (x : Command) (t : List ℕ) → plays_now s earlier x t ≡ true → stored s t earlier x ≡ None
 unfolding stored
 unsaid s earlier (Client o at (Attach id)) t e = refl
@@ -98,7 +98,7 @@ pub played_out : (s : Settings) (earlier : List Command) (x : Command) (t : List
     → plays (takes s earlier x) (attached s earlier) (is_channel t && detached s earlier t) t (is_known s earlier t) x ≡ true → kept s (x ∷ earlier) t ≡ []
 played_out s earlier x t e g f = kept-next s earlier x t ∙ rw (emptied_played s earlier x t e g f, unsaid s earlier x t f) (keep_last-nil (size s t (x ∷ earlier)))
 
--- ---- one who is not attached
+-- ---- a client that is not attached
 
 none_same_by : (o x : Origin) (os : List Origin) (b : Bool) → (b || is_among o os) ≡ false → (is_among o os ≡ false → filter (λ y. not (same_origin o y)) os ≡ os)
     → (if not b then x ∷ filter (λ y. not (same_origin o y)) os else filter (λ y. not (same_origin o y)) os) ≡ x ∷ os
@@ -109,7 +109,7 @@ none_same : (o : Origin) (os : List Origin) → is_among o os ≡ false → filt
 none_same o [] e = refl
 none_same o (x ∷ os) e = none_same_by o x os (same_origin o x) e (λ f. none_same o os f)
 
--- its requests but Attach do nothing to what is held
+-- its requests other than Attach do not change what is held
 held_still : (s : Settings) (h : Held) (o : Origin) (at : ℕ) (a : Action) → is_attach a ≡ false → is_among o h.clients ≡ false → filter (λ x. not (same_origin o x.0)) h.names.holders ≡ h.names.holders → after s 0 h (Client o at a) ≡ h
 held_still s h o at (Attach id) e f g = cc
 held_still s h o at Leave e f g = rw (none_same o h.clients f, g) refl
@@ -142,7 +142,7 @@ closed_only s h o at ClearAll e f = rw f refl
 closed_only s h o at (SetBuffer u n) e f = rw f refl
 closed_only s h o at (Pass l) e f = rw f refl
 
--- the floor matters to an Attach alone
+-- the floor matters only to an Attach
 any_floor : (s : Settings) (h : Held) (n : ℕ) (o : Origin) (at : ℕ) (a : Action) → is_attach a ≡ false → after s n h (Client o at a) ≡ after s 0 h (Client o at a)
 any_floor s h k o at (Attach id) e = cc
 any_floor s h k o at Leave e = refl
@@ -175,7 +175,7 @@ any_floor_answers s h k o at ClearAll e = refl
 any_floor_answers s h k o at (SetBuffer u n) e = refl
 any_floor_answers s h k o at (Pass l) e = refl
 
--- nor has one who is not attached a name
+-- nor does a client that is not attached have a name
 none_held : (s : Settings) (earlier : List Command) (o : Origin) → is_among o (attached s earlier) ≡ false → filter (λ x. not (same_origin o x.0)) (names_held s earlier).holders ≡ (names_held s earlier).holders
 none_held s earlier o f =
     stay (λ p. not (same_origin o p)) (ids s earlier) (id_of s earlier) (attached s earlier) ∙ ap (holders (ids s earlier) (id_of s earlier)) (none_same o (attached s earlier) f)

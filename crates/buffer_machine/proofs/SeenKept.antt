@@ -1,5 +1,5 @@
--- A name that a client has that is attached has seen all that is kept of a target that is shown; and the counts that are told of all
--- names after each kind of change.
+-- The name of an attached client has seen all that is kept of a target that is shown; and how much all names have seen
+-- after each kind of change.
 use Rattle.std.proofs.Common.{◌≡◌, ℕ, Bool, true, false, not, ◌&&◌, ◌||◌, List, [], ◌∷◌, ◌++◌, length, refl, sym, ap, ◌∙◌}
 use Rattle.std.specs.Prelude.{Option, None, if◌then◌else◌, filter, ◌==◌, nat_lt}
 use Rattle.std.specs.List.{list_any}
@@ -51,7 +51,7 @@ any_filtered : {A : Type 0} (p q : A → Bool) (xs : List A) → list_any p (fil
 any_filtered p q [] e = cc
 any_filtered p q (x ∷ xs) e = filtered_by p q x xs (q x) (p x) (any_filtered p q xs) refl e
 
--- one who attaches by another name brings nobody of this one
+-- a client that attaches by another name does not bring this name
 none_by : (given n : Option (List ℕ)) (id : List ℕ) (b : Bool) → is_id id given ≡ false → is_id id n ≡ false → is_id id (if b then given else n) ≡ false
 none_by given n id true e f = e
 none_by given n id false e f = f
@@ -157,11 +157,11 @@ stayed_by : (s : Settings) (earlier : List Command) (x : Command) (id t : List �
 stayed_by s earlier x id t false h d e = seen_when s earlier x id t (there s earlier x id t h d)
 stayed_by s earlier x id t true h d e = hidden_once s earlier x t id (is_channel t) (detached s earlier t) refl refl h d e
 
--- of a name that was attached before the command
+-- for a name that was attached before the command
 stayed : (s : Settings) (earlier : List Command) (x : Command) (id t : List ℕ) → holds s earlier id ≡ true → (is_channel t && detached s (x ∷ earlier) t) ≡ false → seen s (x ∷ earlier) id t ≡ length (kept s (x ∷ earlier) t)
 stayed s earlier x id t h e = stayed_by s earlier x id t (is_channel t && detached s earlier t) h refl e
 
--- ---- and of one that came
+-- ---- and for one that came
 
 sees_came : (s : Settings) (earlier : List Command) (o : Origin) (at : ℕ) (given : Option (List ℕ)) (id t : List ℕ) → takes s earlier (Client o at (Attach given)) ≡ true → is_id id given ≡ true → is_known s earlier t ≡ true
     → (is_channel t && detached s earlier t) ≡ false → sees s earlier id t (Client o at (Attach given)) ≡ true
@@ -214,7 +214,7 @@ here_after s sound earlier (Upstream at line) id t e d = stayed s earlier (Upstr
 here_after s sound earlier Up id t e d = stayed s earlier Up id t (holds-is s earlier id ∙ e) d
 here_after s sound earlier Down id t e d = stayed s earlier Down id t (holds-is s earlier id ∙ e) d
 
--- a name that a client has that is attached has seen all of a target that is shown
+-- the name of an attached client has seen all of a target that is shown
 pub here_all : (s : Settings) → IsSound s → (h : List Command) (id t : List ℕ) → holds s h id ≡ true → (is_channel t && detached s h t) ≡ false → seen s h id t ≡ length (kept s h t)
 here_all s sound [] id t e d = nothing_all s [] id t (kept-none s t)
 here_all s sound (x ∷ earlier) id t e d = here_after s sound earlier x id t (sym (holds-more s earlier x id) ∙ e) d

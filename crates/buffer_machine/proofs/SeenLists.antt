@@ -1,4 +1,4 @@
--- What is told of all names after each kind of change of a target.
+-- How much each name has seen after each kind of change of a target.
 use Rattle.std.proofs.Common.{◌≡◌, ℕ, suc, ◌-◌, ◌+◌, Bool, true, false, not, ◌&&◌, ◌||◌, List, [], ◌∷◌, ◌++◌, map, length, refl, sym, ap, arith, ◌∙◌, length-drop}
 use Rattle.std.specs.Prelude.{Option, Some, None, if◌then◌else◌}
 use Rattle.std.proofs.lemmas.List.{append-nil, length-append}
@@ -29,7 +29,7 @@ use Rattle.buffer_machine.proofs.SeenStep.{seen-more, seen_nothing, seen_when, t
 use Rattle.buffer_machine.proofs.Standings.{are_new, counted_here, counted_reader, for_fewer, for_same, for_zero, same_bytes-sym}
 use Rattle.buffer_machine.proofs.Unnamed.{ids-more}
 
--- of nothing, nothing is seen
+-- if nothing is kept, nothing is seen
 pub nothing_list : (s : Settings) (h : List Command) (t : List ℕ) → kept s h t ≡ [] → none_seen ≡ seen_held s h t
 nothing_list s h t e = sym (for_zero (λ id. seen s h id t) (λ id. seen_nothing s h id t e) 64 (ids s h))
 
@@ -51,7 +51,7 @@ sees-is s earlier id t x = refl
 all_here : (s : Settings) → IsSound s → (h : List Command) (id t : List ℕ) → (holds s h id && not (hidden s h t)) ≡ true → seen s h id t ≡ length (kept s h t)
 all_here s sound h id t e = here_all s sound h id t (and_left (holds s h id) (not (hidden s h t)) e) (not_true (hidden s h t) (and_right (holds s h id) (not (hidden s h t)) e))
 
--- ---- where nothing comes and nothing goes
+-- ---- where no line comes and none goes
 
 kept_same : (s : Settings) (earlier : List Command) (x : Command) (t : List ℕ) → emptied s t earlier x ≡ false → stored s t earlier x ≡ None → size s t (x ∷ earlier) ≡ size s t earlier → kept s (x ∷ earlier) t ≡ kept s earlier t
 kept_same s earlier x t e o n = kept-next s earlier x t ∙ rw (e, o, n) (next-quiet (size s t earlier) (kept s earlier t) (kept_fits s earlier t))
@@ -70,7 +70,7 @@ played_by s sound earlier x t id false false e o n h g =
     let none : length (kept s earlier t ++ []) - size s t earlier ≡ 0 = omega (arith, fit, same) in
     sym (seen-more s earlier x id t ∙ rw (g, e, o, n, none) refl)
 
--- what is told where a command stores nothing, by whether it empties the target and whether it plays it
+-- how much each name has seen where a command stores nothing, by whether it empties the target and whether it plays it
 pub seen_list : (s : Settings) → IsSound s → (earlier : List Command) (x : Command) (t : List ℕ) (told : List ℕ) (e p : Bool) → emptied s t earlier x ≡ e → stored s t earlier x ≡ None → size s t (x ∷ earlier) ≡ size s t earlier
     → plays_now s earlier t x ≡ p
     → (p ≡ true → told ≡ for_each (λ id. if shown_now s earlier x id then length (kept s earlier t) else seen s earlier id t - 0) 64 (ids s (x ∷ earlier)))
@@ -110,13 +110,13 @@ sized_list s sound earlier x t m e o n g =
     (λ id. sized_by s sound earlier x t id m (holds s earlier id && not (hidden s earlier t)) e o n refl
     (sees-is s earlier id t x ∙ rw g (or_false (holds s earlier id && not (hidden s earlier t))))) 64 (ids s (x ∷ earlier)))
 
--- another size, or none
+-- another size, or the same one
 pub sized_told : (s : Settings) → IsSound s → (earlier : List Command) (x : Command) (t : List ℕ) (m : ℕ) (b : Bool) → emptied s t earlier x ≡ false → stored s t earlier x ≡ None → size s t (x ∷ earlier) ≡ (if b then m else size s t earlier) → plays_now s earlier t x ≡ false
     → (if b then fewer (length (kept s earlier t) - m) (seen_held s earlier t) else seen_held s earlier t) ≡ seen_held s (x ∷ earlier) t
 sized_told s sound earlier x t m true e o n g = sized_list s sound earlier x t m e o n g
 sized_told s sound earlier x t m false e o n g = seen_list s sound earlier x t (seen_held s earlier t) false false e o n g (λ p. cc)
 
--- ---- a line more
+-- ---- one more line
 
 -- how many lines there are then
 abbrev pub pushed_length : ℕ → List (ℕ × Parts) → ℕ × Parts → ℕ
@@ -149,7 +149,7 @@ pushed_list s earlier x t line n here e o m g i h =
     (sees-is s earlier id t x ∙ rw g (or_false (holds s earlier id && not (hidden s earlier t))))) 64 (ids s earlier)
     ∙ ap (for_each (λ id. seen s (x ∷ earlier) id t) 64) (sym i)))
 
--- ---- who was played to
+-- ---- to whom it was played
 
 told_none : (s : Settings) (h : List Command) (t : List ℕ) (is : List (List ℕ)) → for_each (λ id. seen s h id t) 64 is ≡ for_each (λ id. seen s h id t - 0) 64 is
 told_none s h t is = for_same (λ id. seen s h id t) (λ id. seen s h id t - 0) (λ id. sym (less_nothing (seen s h id t))) 64 is
@@ -166,7 +166,7 @@ told_by : (s : Settings) (h : List Command) (t : List ℕ) (k : ℕ) (n : Option
 told_by s h t k None e = told_none s h t (ids s h)
 told_by s h t k (Some j) e = told_one s h t j k (ids s h) e (ids_differ s h)
 
--- Play plays to the name of the one who asks
+-- Play plays to the name of the client that asks
 pub play_list : (s : Settings) (earlier : List Command) (o : Origin) (at : ℕ) (u t : List ℕ) → is_among o (attached s earlier) ≡ true
     → counted (length (kept s earlier t)) 0 (reader_of o (names_held s earlier)) (seen_held s earlier t)
     ≡ for_each (λ id. if is_id id (id_of s earlier o) then length (kept s earlier t) else seen s earlier id t - 0) 64 (ids s (Client o at (Play u) ∷ earlier))
@@ -180,7 +180,7 @@ index_given : (given : List ℕ) (is : List (List ℕ)) (b : Bool) → is_id_in 
 index_given given is true e = refl
 index_given given is false e = let n = index_new given is e in index_pushed given is (omega (arith, n))
 
--- an Attach that is taken plays to the name that is given
+-- an Attach that is taken plays to the name that it gives
 pub attach_list : (s : Settings) (earlier : List Command) (o : Origin) (at : ℕ) (given : Option (List ℕ)) (t : List ℕ) → takes s earlier (Client o at (Attach given)) ≡ true
     → counted (length (kept s earlier t)) 0 (reader_named given (names_held s earlier)) (seen_held s earlier t)
     ≡ for_each (λ id. if is_id id given then length (kept s earlier t) else seen s earlier id t - 0) 64 (ids s (Client o at (Attach given) ∷ earlier))

@@ -1,4 +1,4 @@
--- How many lines of a target each name has seen, after one command more.
+-- How many lines of a target each name has seen, after one more command.
 use Rattle.std.proofs.Common.{◌≡◌, ℕ, zero, suc, ◌-◌, ◌≤◌, Bool, true, false, not, ◌&&◌, List, [], ◌∷◌, ◌++◌, length, drop, refl, sym, ap, arith, ◌∙◌}
 use Rattle.std.specs.Prelude.{Option, Some, None, if◌then◌else◌, nat_le, nat_lt, option_map}
 use Rattle.std.specs.List.{list_all, list_any}
@@ -46,14 +46,14 @@ pub seen_fits : (s : Settings) (h : List Command) (id t : List ℕ) → seen s h
 unfolding seen
 seen_fits s h id t = rw (← placed_length s h t) (low_fits (mark s id t h) (placed s h t))
 
--- of nothing it has seen nothing
+-- if nothing is kept it has seen nothing
 pub seen_nothing : (s : Settings) (h : List Command) (id t : List ℕ) → kept s h t ≡ [] → seen s h id t ≡ 0
 seen_nothing s h id t e =
     let fit = seen_fits s h id t in
     let none : length (kept s h t) ≡ 0 = ap length e in
     omega (arith, fit, none)
 
--- ---- after one command more
+-- ---- after one more command
 
 all_low : (n : ℕ) (ks : List Placed) → are_within n ks ≡ true → low n ks ≡ ks
 all_low n [] e = refl
@@ -75,7 +75,7 @@ one_length : (n : ℕ) (o : Option (ℕ × Parts)) → length {A = Placed} (if_k
 one_length n None = refl
 one_length n (Some line) = refl
 
--- the lines there are once the newest has come
+-- the lines that there are once the newest has come
 abbrev pub grown_lines : Bool → List (ℕ × Parts) → Option (ℕ × Parts) → List (ℕ × Parts)
 grown_lines e ks o = (if e then [] else ks) ++ if_kept true o
 
@@ -103,7 +103,7 @@ pub seen-more : (s : Settings) (earlier : List Command) (x : Command) (id t : Li
     else (if emptied s t earlier x then 0 else seen s earlier id t) - (length (grown_lines (emptied s t earlier x) (kept s earlier t) (stored s t earlier x)) - size s t (x ∷ earlier)))
 seen-more s earlier x id t = seen_by s earlier x id t (sees s earlier id t x) refl
 
--- ---- a name that is not known has seen nothing
+-- ---- an unknown name has seen nothing
 
 abbrev are_above : List Placed → Bool
 are_above ks = list_all (λ k. nat_lt 0 k.0) ks
@@ -137,7 +137,7 @@ seen_of_none : (s : Settings) (h : List Command) (id t : List ℕ) → mark s id
 unfolding seen
 seen_of_none s h id t e = rw e (ap length (none_low (placed s h t) (places-above s h t)))
 
--- a name that is not known is nobody's
+-- an unknown name belongs to nobody
 not_its : (id : List ℕ) (ids : List (List ℕ)) (n : Option (List ℕ)) → is_id_in id ids ≡ false → has_id ids n ≡ true → is_id id n ≡ false
 not_its id ids None e f = refl
 not_its id ids (Some j) e f = false_of (same_bytes id j) (λ g. sym e ∙ (ap (λ k. is_id_in k ids) (same_bytes-eq id j g) ∙ f))
@@ -154,7 +154,7 @@ and_none : (b c : Bool) → c ≡ false → (b && c) ≡ false
 and_none true c e = e
 and_none false c e = refl
 
--- nothing is shown to a name that is not known after it
+-- a name that is still unknown after a command is shown nothing by it
 not_shown : (s : Settings) (earlier : List Command) (id t : List ℕ) (x : Command) (hidden known : Bool) → is_id_in id (ids s earlier) ≡ false → is_id_in id (ids_after (takes s earlier x) (ids s earlier) x) ≡ false
     → (plays (takes s earlier x) (attached s earlier) hidden t known x && is_shown_to id (holds s earlier id) (id_of s earlier) x) ≡ false
 not_shown s earlier id t (Client o at (Attach None)) hidden known e f = and_none _ false refl
@@ -196,11 +196,11 @@ mark_of_none s (x ∷ earlier) id t e =
     ∙ (ap (λ b. if b then suc (length earlier) else mark s id t earlier) (no_sight s earlier id t x (not_before s x earlier id e) e)
     ∙ mark_of_none s earlier id t (not_before s x earlier id e))
 
--- a name that is not known has seen nothing
+-- an unknown name has seen nothing
 pub seen_unknown : (s : Settings) (h : List Command) (id t : List ℕ) → is_id_in id (ids s h) ≡ false → seen s h id t ≡ 0
 seen_unknown s h id t e = seen_of_none s h id t (mark_of_none s h id t e)
 
--- ---- the names that a command brings
+-- ---- the names that a command adds
 
 abbrev told : Settings → List Command → List ℕ → List (List ℕ) → List ℕ
 told s h t is = for_each (λ id. seen s h id t) 64 is
@@ -231,6 +231,6 @@ grown_after s earlier t taken (NodeGone node boot) = refl
 grown_after s earlier t taken Up = refl
 grown_after s earlier t taken Down = refl
 
--- what was told of the names is told of those that are known after a command
+-- the list for the names before a command is also that for the names known after it
 pub told_more : (s : Settings) (earlier : List Command) (x : Command) (t : List ℕ) → seen_held s earlier t ≡ told s earlier t (ids s (x ∷ earlier))
 told_more s earlier x t = grown_after s earlier t (takes s earlier x) x ∙ ap (told s earlier t) (sym (ids-more s x earlier))

@@ -1,4 +1,4 @@
--- What is shown of some lines.
+-- How lines are shown.
 use Rattle.std.proofs.Common.{◌≡◌, ℕ, Bool, true, false, List, [], ◌∷◌, ◌++◌, map, refl, ap, ◌∙◌, append_assoc}
 use Rattle.std.specs.Prelude.{flat_map, if◌then◌else◌}
 use Rattle.irc_line.specs.Lines.{Parts, spelling}
@@ -35,6 +35,6 @@ shown_to_last [] o lines = shown_to_one (copies lines o)
     shown_to_one (x ∷ xs) = ap (λ ys. x ∷ ys) (shown_to_one xs)
 shown_to_last (p ∷ os) o lines = append_assoc (copies lines p) (flat_map (copies lines) os) (copies lines o) ∙ ap (λ es. copies lines p ++ es) (shown_to_last os o lines)
 
--- of a first line and others
+-- a first line and others
 pub show_first_is : (os : List Origin) (line : Parts) (lines : List Parts) → flat_map (copies (spelling line ∷ map spelling lines)) os ≡ show_each os (line ∷ lines)
 show_first_is os line lines = show_each_is os (line ∷ lines)

@@ -1,4 +1,4 @@
--- What is so of the names of channels and queries after any history.
+-- What holds of the names of channels and queries after any history.
 use Rattle.std.proofs.Common.{◌≡◌, ℕ, ◌≤◌, Bool, true, false, not, ◌&&◌, ◌||◌, List, [], ◌∷◌, length, refl, ap, ◌∙◌, arith}
 use Rattle.std.specs.Prelude.{Option, Some, None, if◌then◌else◌, filter, codes}
 use Rattle.std.specs.List.{list_all}
@@ -22,7 +22,7 @@ use Rattle.buffer_targets.proofs.Indexes.{different_pushed, different_dropped}
 
 -- ---- channels
 
--- what is made is a channel
+-- a name that is made is a channel's
 abbrev IsMadeOf : (List ℕ → Bool) → Option (List ℕ) → Type 0
 IsMadeOf p None = true ≡ true
 IsMadeOf p (Some c) = p c ≡ true
@@ -79,7 +79,7 @@ channels-are s sound (x ∷ earlier) =
     ∙ all-filter is_channel (λ c. not (is_removed s earlier (fold_name c) x)) _
     (all-made is_channel (made_by (nick s earlier) x) (channels s earlier) (made-channel (nick s earlier) x) (channels-are s sound earlier))
 
--- which channels there are after one command more
+-- which channels there are after one more command
 pub known-next : (s : Settings) (earlier : List Command) (x : Command) (k : List ℕ)
     → is_in k (channels s (x ∷ earlier)) ≡ ((is_made_at k (made_by (nick s earlier) x) || is_in k (channels s earlier)) && not (is_removed s earlier k x))
 known-next s earlier x k =
@@ -147,7 +147,7 @@ queries-are s (x ∷ earlier) =
     ∙ all-drop is_query_name _ (with_new (stored_query s earlier x) (queries s earlier))
     (all-new is_query_name (stored_query s earlier x) (queries s earlier) (stored-is_query s earlier x) (queries-are s earlier))
 
--- there are no more than there may be
+-- there are no more than allowed
 pub queries-fit : (s : Settings) (history : List Command) → length (queries s history) ≤ s.most_queries
 queries-fit s [] = rw queries-none (omega arith)
 queries-fit s (x ∷ earlier) = rw queries-more (newest-length s.most_queries (with_new (stored_query s earlier x) (queries s earlier)))
@@ -156,13 +156,13 @@ pub new-known : (s : Settings) (earlier : List Command) (x : Command) (k : List 
     → is_in k (with_new (stored_query s earlier x) (queries s earlier)) ≡ (is_made_at k (stored_query s earlier x) || is_in k (queries s earlier))
 new-known s earlier x k = in-new k (stored_query s earlier x) (queries s earlier)
 
--- ---- a key is a channel's or a query's
+-- ---- each key is a channel's or a query's
 
 no_channel_at : (k c : List ℕ) (b : Bool) → at_key k c ≡ b → is_channel k ≡ false → is_channel c ≡ true → b ≡ false
 no_channel_at k c true e f g = absurd (let t : is_channel k ≡ true = ap is_channel (key_is k c e) ∙ channel-key c g in cc)
 no_channel_at k c false e f g = refl
 
--- no channel has a key that is no channel's
+-- no channel has a key that is not a channel's
 no_channel : (k : List ℕ) (cs : List (List ℕ)) → is_channel k ≡ false → list_all is_channel cs ≡ true → is_in k cs ≡ false
 no_channel k [] e f = refl
 no_channel k (c ∷ cs) e f =
@@ -184,10 +184,10 @@ pub known-both : (s : Settings) (history : List Command) (t : List ℕ) → is_k
 unfolding is_known targets
 known-both s history t = in-append t (channels s history) (queries s history)
 
--- a channel's key is known where a channel has it
+-- a channel's key is known where some channel has it
 pub known-channel : (s : Settings) (history : List Command) (k : List ℕ) → is_channel k ≡ true → is_known s history k ≡ is_in k (channels s history)
 known-channel s history k e = known-both s history k ∙ (ap (λ b. is_in k (channels s history) || b) (not_a_query s history k e) ∙ or_false (is_in k (channels s history)))
 
--- any other key is known where a query has it
+-- any other key is known where some query has it
 pub known-query : (s : Settings) → IsSound s → (history : List Command) (k : List ℕ) → is_channel k ≡ false → is_known s history k ≡ is_in k (queries s history)
 known-query s sound history k e = known-both s history k ∙ ap (λ b. b || is_in k (queries s history)) (not_a_channel s sound history k e)

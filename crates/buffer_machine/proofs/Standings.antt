@@ -1,4 +1,4 @@
--- Where the names of clients stand, which clients have one, and what is told of each name in a list with room for all.
+-- The places of clients' names, which clients have one, and how much each name has seen, in a list with room for all.
 use Rattle.std.proofs.Common.{◌≡◌, ℕ, zero, suc, ◌-◌, ◌≤◌, Bool, true, false, not, ◌&&◌, ◌||◌, List, [], ◌∷◌, ◌++◌, map, length, refl, sym, ap, arith, ◌∙◌, append_assoc}
 use Rattle.std.specs.Prelude.{◌==◌, if◌then◌else◌, flat_map, replicate, slice_index, slice_set, Option, Some, None}
 use Rattle.std.specs.List.{list_any}
@@ -17,13 +17,13 @@ same_sym a b true t e f = sym (same_bytes-refl a) ∙ (ap (λ x. same_bytes x a)
 same_sym a b false true e f = sym e ∙ (ap (same_bytes a) (same_bytes-eq b a f) ∙ same_bytes-refl a)
 same_sym a b false false e f = refl
 
--- bytes are the same either way
+-- the comparison of bytes is symmetric
 pub same_bytes-sym : (a b : List ℕ) → same_bytes a b ≡ same_bytes b a
 same_bytes-sym a b = same_sym a b (same_bytes a b) (same_bytes b a) refl refl
 
 -- ---- names that are all different
 
--- none of these is among those before it
+-- none of these is among the ones before it
 abbrev pub are_new : List (List ℕ) → List (List ℕ) → Bool
 are_new front [] = true
 are_new front (x ∷ xs) = not (is_id_in x front) && are_new (front ++ x ∷ []) xs
@@ -52,7 +52,7 @@ first_by : (j id : List ℕ) (n : ℕ) (b : Bool) → ((if b then 0 else suc n) 
 first_by j id n true = refl
 first_by j id n false = grind (arith, nat_tests)
 
--- a name stands behind others that it is none of
+-- a name that is none of the first ones is found after them
 later_by : (id j y : List ℕ) (n m : ℕ) (b : Bool) → same_bytes j y ≡ b → same_bytes id y ≡ false → (n == m) ≡ same_bytes id j → ((if b then 0 else suc n) == suc m) ≡ same_bytes id j
 later_by id j y n m true e f ih =
     let none : (0 == suc m) ≡ false = grind (arith, nat_tests) in
@@ -71,7 +71,7 @@ any_by : (front : List (List ℕ)) (id : List ℕ) (back : List (List ℕ)) (o :
 any_by front id back o hs b None e ih = ih
 any_by front id back o hs b (Some j) e ih = rw (index_is front id j back e, ih) refl
 
--- the holders of the name at a place are the clients of the name
+-- the holders of the name at a place are the clients with that name
 pub any_holder : (front : List (List ℕ)) (id : List ℕ) (back : List (List ℕ)) (g : Origin → Option (List ℕ)) (os : List Origin) → is_id_in id front ≡ false
     → list_any (λ h. h.1 == length front) (flat_map (λ o. holder (front ++ id ∷ back) o (g o)) os) ≡ list_any (λ o. is_id id (g o)) os
 any_holder front id back g [] e = refl
@@ -93,7 +93,7 @@ for_zero f h zero ids = refl
 for_zero f h (suc n) [] = ap (λ xs. 0 ∷ xs) (for_zero f h n [])
 for_zero f h (suc n) (id ∷ ids) = ap (λ y. y ∷ for_each f n ids) (h id) ∙ ap (λ xs. 0 ∷ xs) (for_zero f h n ids)
 
--- one name more, of which nothing is told
+-- one more name, whose number is 0
 pub for_more : (f : List ℕ → ℕ) (id : List ℕ) → f id ≡ 0 → (n : ℕ) (ids : List (List ℕ)) → for_each f n (ids ++ id ∷ []) ≡ for_each f n ids
 for_more f id e zero ids = refl
 for_more f id e (suc n) [] = ap (λ y. y ∷ for_each f n []) e
@@ -106,7 +106,7 @@ for_fewer f gone (suc n) [] =
     ap (λ y. y ∷ fewer gone (for_each f n [])) none ∙ ap (λ xs. 0 ∷ xs) (for_fewer f gone n [])
 for_fewer f gone (suc n) (id ∷ ids) = ap (λ xs. (f id - gone) ∷ xs) (for_fewer f gone n ids)
 
--- what is told of the name at its place
+-- the number at a name's place is that of the name
 at_by : (f : List ℕ → ℕ) (id x : List ℕ) (n : ℕ) (xs : List (List ℕ)) (b : Bool) → same_bytes id x ≡ b → (b || is_id_in id xs) ≡ true → (is_id_in id xs ≡ true → slice_index (for_each f n xs) (index_in id xs) ≡ f id)
     → slice_index (f x ∷ for_each f n xs) (if b then 0 else suc (index_in id xs)) ≡ f id
 at_by f id x n xs true e i ih = ap f (sym (same_bytes-eq id x e))
@@ -128,13 +128,13 @@ for_unknown f id (suc n) [] e = refl
 for_unknown f id zero (x ∷ xs) e = refl
 for_unknown f id (suc n) (x ∷ xs) e = new_by f id x n xs (same_bytes id x) e (for_unknown f id n xs)
 
--- ---- what is counted of it
+-- ---- how it is counted
 
 count_one : (all gone : ℕ) (b : Bool) (n : ℕ) → counted_one all gone (Some b) n ≡ (if b then all else n - gone)
 count_one all gone true n = refl
 count_one all gone false n = refl
 
--- of those who are here, a reader for each name
+-- for the readers who are here, one for each name
 pub counted_here : (p : List ℕ → Bool) (f : List ℕ → ℕ) (all gone n : ℕ) (ids : List (List ℕ)) → counted all gone (map p ids) (for_each f n ids) ≡ for_each (λ id. if p id then all else f id - gone) n ids
 counted_here p f all gone n [] = for_nobody f (λ id. if p id then all else f id - gone) n
 counted_here p f all gone zero (id ∷ ids) = refl
@@ -163,7 +163,7 @@ in_last : (given x : List ℕ) (front : List (List ℕ)) → same_bytes given x 
 in_last given x [] e = rw e refl
 in_last given x (y ∷ front) e = or_then (same_bytes given y) true (is_id_in given (front ++ x ∷ [])) (or_true (same_bytes given y)) (λ t. in_last given x front e)
 
--- those behind the reader
+-- the places after the reader's
 behind : (given : List ℕ) (front : List (List ℕ)) (f : List ℕ → ℕ) (all gone n : ℕ) (ids : List (List ℕ)) → is_id_in given front ≡ true → are_new front ids ≡ true
     → counted all gone (replicate n false) (for_each f n ids) ≡ for_each (λ id. if same_bytes given id then all else f id - gone) n ids
 behind given front f all gone n [] i e = none_more f (λ id. if same_bytes given id then all else f id - gone) all gone n
@@ -179,7 +179,7 @@ reader_by : (given x : List ℕ) (front : List (List ℕ)) (f : List ℕ → ℕ
 reader_by given x front f all gone n xs true e i new ih = ap (λ ys. all ∷ ys) (behind given (front ++ x ∷ []) f all gone n xs (in_last given x front e) new)
 reader_by given x front f all gone n xs false e i new ih = ap (λ ys. (f x - gone) ∷ ys) (ih i)
 
--- of one reader alone
+-- for one reader alone
 pub counted_reader : (given : List ℕ) (front : List (List ℕ)) (f : List ℕ → ℕ) (all gone n : ℕ) (ids : List (List ℕ)) → is_id_in given ids ≡ true → are_new front ids ≡ true
     → counted all gone (slice_set (replicate n false) (index_in given ids) true) (for_each f n ids) ≡ for_each (λ id. if same_bytes given id then all else f id - gone) n ids
 counted_reader given front f all gone n [] i e = cc

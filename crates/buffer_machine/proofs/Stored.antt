@@ -62,12 +62,12 @@ if_same : {A : Type 0} (b : Bool) (x y : A) → y ≡ x → y ≡ (if b then x e
 if_same true x y e = e
 if_same false x y e = refl
 
--- what is stored in queries leaves the channels in their places
+-- storing in queries leaves the channels in their places
 pub still-placed : (h i : Held) (line : Parts) (place : Option ℕ) (ts : List TargetLines) → i ≡ with_queries h ts → HasPlace line h place → HasPlace line i place
 still-placed h i line place ts e stands = subst (λ cs. StandsAt (fold_name (channel_of line)) cs place) (sym (ap (λ g. g.channels) e)) stands
 
 module _ (s : Settings) (h : Held) (at : ℕ) (line : Parts) where
-  -- the channel that a line names stores it, or does not, or is not known
+  -- the channel that a line names stores it, or does not, or is unknown
   pub line-stored : (b : Bool) (g : Held) → b ≡ stores_in_channel s h line → b ≡ true → g ≡ kept_in (fold_name (channel_of line)) (at, line) h → g ≡ with_channels h (channels_storing s h (Some (at, line)))
   line-stored b g e t k =
       k ∙ ap (with_channels h) (if_by (stores_in_channel s h line) (at_channel (fold_name (channel_of line)) (over (pushed (at, line) (here_in h.names (is_detached (found (channel_of line) h))))) h.channels) h.channels (sym e ∙ t) ∙ sym (channels-stored s h at line))

@@ -1,4 +1,4 @@
--- What is so of a target that is not known: it keeps nothing, and it begins anew.
+-- What holds of an unknown target: it keeps nothing, and it begins from scratch.
 use Rattle.std.proofs.Common.{◌≡◌, ℕ, ◌≤◌, List, [], ◌∷◌, length, refl, ap, ◌∙◌, sym, Bool, true, false, not, ◌&&◌, ◌||◌}
 use Rattle.std.specs.Prelude.{Option, Some, None, if◌then◌else◌, codes}
 use Rattle.irc_line.specs.Names.{fold_name, is_channel}
@@ -23,7 +23,7 @@ use Rattle.buffer_lines.proofs.Keeping.{keep_last-nil}
 
 -- ---- channels
 
--- a channel that is not known now was not known before, or was removed
+-- a channel that is unknown now was unknown before, or was removed
 gone_or_not : {P : Type 0} (made was removed : Bool) → ((made || was) && not removed) ≡ false → (was ≡ false → made ≡ false → P) → (removed ≡ true → P) → P
 gone_or_not made was true e f g = g refl
 gone_or_not true was false e f g = absurd cc
@@ -59,7 +59,7 @@ pub detached-none : (s : Settings) (k : List ℕ) → detached s [] k ≡ false
 unfolding detached
 detached-none s k = refl
 
--- what is no known channel is not detached
+-- a key with no known channel is not detached
 pub detached-unknown : (s : Settings) (history : List Command) (k : List ℕ) → is_in k (channels s history) ≡ false → detached s history k ≡ false
 detached-unknown s [] k e = detached-none s k
 detached-unknown s (x ∷ earlier) k e =
@@ -100,7 +100,7 @@ size_unknown_by : (s : Settings) (earlier : List Command) (x : Command) (k : Lis
 size_unknown_by s earlier x k true c i ih = first-channel s k c
 size_unknown_by s earlier x k false c i ih = rw (known-channel s earlier k c, i) (size_unknown (attached s earlier) k (size s k earlier) x ∙ ih)
 
--- a channel that is not known begins with the setup's size
+-- an unknown channel begins with the setup's size
 pub size-unknown : (s : Settings) (history : List Command) (k : List ℕ) → is_channel k ≡ true → is_in k (channels s history) ≡ false → size s k history ≡ s.channel_size
 size-unknown s [] k c e = size-first s k ∙ first-channel s k c
 size-unknown s (x ∷ earlier) k c e =
@@ -110,7 +110,7 @@ size-unknown s (x ∷ earlier) k c e =
     (λ i m. size_unknown_by s earlier x k (is_removed s earlier k x) c i (size-unknown s earlier k c i))
     (λ r. ap (λ b. if b then first_size s k else size_after (attached s earlier) (is_known s earlier k) k (size s k earlier) x) r ∙ first-channel s k c))
 
--- a line that is not stored anywhere
+-- a line that is stored nowhere
 unaimed : (keep : Bool) (cs : List (List ℕ)) (own k : List ℕ) (line : ℕ × Parts) → is_storable line.1 ≡ false → stored_where keep cs own k (Some line) ≡ None
 unaimed keep cs own k line e = rw e (ap (λ b. if b then Some line else None) (and_false keep))
 
@@ -146,12 +146,12 @@ pub removed-is : (s : Settings) (earlier : List Command) (k : List ℕ) (x : Com
 unfolding is_removed
 removed-is s earlier k x = refl
 
--- what removes a target empties it
+-- a command that removes a target empties it
 emptied-removed : (s : Settings) (earlier : List Command) (x : Command) (k : List ℕ) → removes_target s earlier k x ≡ true → emptied s k earlier x ≡ true
 unfolding emptied
 emptied-removed s earlier x k e = rw e (or_true (is_cleared (attached s earlier) (is_channel k) k (is_known s earlier k) x || (clears s k && empties (ids s earlier) x && plays (takes s earlier x) (attached s earlier) (is_channel k && detached s earlier k) k (is_known s earlier k) x)))
 
--- a channel that is not known keeps nothing
+-- an unknown channel keeps nothing
 pub kept-unknown : (s : Settings) (history : List Command) (k : List ℕ) → is_channel k ≡ true → is_in k (channels s history) ≡ false → kept s history k ≡ []
 kept-unknown s [] k c e = kept-none s k
 kept-unknown s (x ∷ earlier) k c e =
@@ -162,7 +162,7 @@ kept-unknown s (x ∷ earlier) k c e =
 
 -- ---- queries
 
--- a query that is not known now was not known before and is not made, or was pushed out
+-- a query that is unknown now either was unknown before and is not made, or was pushed out
 query_gone : (s : Settings) (earlier : List Command) (x : Command) (k : List ℕ) (was : Bool) → is_in k (queries s earlier) ≡ was → is_in k (queries s (x ∷ earlier)) ≡ false
     → is_pushed_out s earlier k x ≡ was
 unfolding is_pushed_out
@@ -178,7 +178,7 @@ made_at_some k m names n false h l e f = refl
 made_at_some k None names n true h l e f = cc
 made_at_some k (Some q) names n true h l e f = absurd (let t = made_at_by k q names n (is_in (fold_name q) names) h l refl e in cc)
 
--- a query that a command stores a line in is known after it
+-- a query in which a command stores a line is known after it
 pub stored-known : (s : Settings) → IsSound s → (earlier : List Command) (x : Command) (k : List ℕ) → is_in k (queries s (x ∷ earlier)) ≡ false → is_made_at k (stored_query s earlier x) ≡ false
 stored-known s sound earlier x k e =
     made_at_some k (stored_query s earlier x) (queries s earlier) s.most_queries (is_made_at k (stored_query s earlier x)) sound.some_query (queries-fit s earlier) refl (ap (is_in k) (sym (queries-more s earlier x)) ∙ e)
@@ -203,7 +203,7 @@ size_query_by : (s : Settings) → IsSound s → (earlier : List Command) (x : C
 size_query_by s sound earlier x k true c i ih = first-query s k c
 size_query_by s sound earlier x k false c i ih = rw (known-query s sound earlier k c, i) (size_unknown (attached s earlier) k (size s k earlier) x ∙ ih refl)
 
--- a query that is not known begins with the setup's size
+-- an unknown query begins with the setup's size
 pub query-size-unknown : (s : Settings) → IsSound s → (history : List Command) (k : List ℕ) → is_channel k ≡ false → is_in k (queries s history) ≡ false → size s k history ≡ s.query_size
 query-size-unknown s sound [] k c e = size-first s k ∙ first-query s k c
 query-size-unknown s sound (x ∷ earlier) k c e =

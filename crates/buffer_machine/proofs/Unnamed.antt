@@ -1,4 +1,4 @@
--- Where no client ever gives a name, all is as it was before clients could.
+-- If no client ever gives a name, everything is as it was before clients could.
 use Rattle.std.proofs.Common.{◌≡◌, ℕ, suc, Bool, true, false, not, ◌&&◌, ◌||◌, List, [], ◌∷◌, refl, ap, ◌∙◌}
 use Rattle.std.specs.Prelude.{if◌then◌else◌, Option, Some, None, length}
 use Rattle.std.specs.List.{list_any}

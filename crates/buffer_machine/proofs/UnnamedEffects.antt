@@ -1,5 +1,5 @@
--- Where no client ever gives a name, all that is closed, shown and sent is as it was before clients could. And attaching by a name
--- empties nothing.
+-- If no client ever gives a name, all that is closed, shown and sent is as it was before clients could give one; and
+-- attaching by a name empties nothing.
 use Rattle.std.proofs.Common.{◌≡◌, ℕ, Bool, true, false, not, ◌&&◌, ◌||◌, List, [], ◌∷◌, map, refl, ap, ◌∙◌, arith}
 use Rattle.std.specs.Prelude.{Option, Some, None, if◌then◌else◌, codes, nat_le, nat_lt}
 use Rattle.std.proofs.lemmas.Bool.Decides.{nat_tests}
@@ -67,7 +67,7 @@ closings_was s Down earlier e = refl
 
 -- ---- what is shown
 
--- all are shown a channel that is attached again in one way
+-- a channel that is attached again is shown to all in the same way
 again_was : (s : Settings) (earlier : List Command) (os : List Origin) (own c : List ℕ) → is_unnamed earlier ≡ true → shown_again s earlier os own c ≡ again_before s earlier os own c
 again_was s earlier os own c e =
     flat_same (λ p. show_all p (own_line own (codes "JOIN") (named s earlier c) ∷ playback_by s earlier (id_of s earlier p) (fold_name c))) (λ p. show_all p (own_line own (codes "JOIN") (named s earlier c) ∷ playback s earlier (fold_name c)))

@@ -51,25 +51,25 @@ begins = codes ":***!bouncer@local PRIVMSG #x :Buffer Playback..."
 abbrev ends : List ℕ
 ends = codes ":***!bouncer@local PRIVMSG #x :Playback Complete."
 
--- what came while nobody was attached is played to the client that attaches first, and to no other
+-- what came while nobody was attached is played only to the client that attaches first
 played_once : all plain (says t (codes "hi") ∷ Client first (t + 60) (Attach None) ∷ Client second (t + 61) (Attach None) ∷ [])
     ≡ Show first begins ∷ Show first (codes ":a!b@c PRIVMSG #x :[22:13:20] hi") ∷ Show first ends ∷ []
 unfolding effects sent shown closings open_channels named is_channel_known playback kept emptied stored size removes_target is_pushed_out is_removed detached joined made_as is_known targets channels queries stored_query nick attached ids crowd floor id_of holds mark sees placed unseen playback_for at_key spelling stamped timed same_name is_name is_channel kept_lines kept_since stays stored_by
 played_once = refl
 
--- a client that gives a name is played what the name has not seen, whatever others were played
+-- a client that gives a name is played what that name has not seen, whatever others were played
 two_devices : all plain (Client first t (Attach (Some (codes "a"))) ∷ Client first t Leave ∷ says t (codes "hi") ∷ Client second t (Attach (Some (codes "b"))) ∷ says (t + 1) (codes "yo") ∷ Client first t (Attach (Some (codes "a"))) ∷ [])
     ≡ Show second begins ∷ Show second (codes ":a!b@c PRIVMSG #x :[22:13:20] hi") ∷ Show second ends ∷ Show second (codes ":a!b@c PRIVMSG #x :yo") ∷ Show first begins ∷ Show first (codes ":a!b@c PRIVMSG #x :[22:13:20] hi") ∷ Show first (codes ":a!b@c PRIVMSG #x :[22:13:21] yo") ∷ Show first ends ∷ []
 unfolding effects sent shown closings open_channels named is_channel_known playback kept emptied stored size removes_target is_pushed_out is_removed detached joined made_as is_known targets channels queries stored_query nick attached ids crowd floor id_of holds mark sees placed unseen playback_for at_key spelling stamped timed same_name is_name is_channel kept_lines kept_since stays stored_by
 two_devices = refl
 
--- where one client alone may be attached, the one before is closed, and so is what it asks later
+-- if only one client may be attached, the earlier one is closed, and again when it asks for something later
 one_client_alone : all (record plain { many_clients = false }) (Client first t (Attach None) ∷ Client second t (Attach None) ∷ says t (codes "hi") ∷ Client first t (Play x) ∷ [])
     ≡ Close first ∷ Show second (codes ":a!b@c PRIVMSG #x :hi") ∷ Close first ∷ []
 unfolding effects sent shown closings open_channels named is_channel_known playback kept emptied stored size removes_target is_pushed_out is_removed detached joined made_as is_known targets channels queries stored_query nick attached ids crowd floor id_of holds mark sees placed unseen playback_for at_key spelling stamped timed same_name is_name is_channel kept_lines kept_since stays stored_by
 one_client_alone = refl
 
--- a run that is gone is attached no more and is not attached again, the next run is
+-- a run that is gone is no longer attached and cannot attach again; the next run can
 a_run_is_gone : all plain (Client gone t (Attach None) ∷ NodeGone 2 2 ∷ says t (codes "hi") ∷ Client gone t (Attach None) ∷ Client again t (Attach None) ∷ [])
     ≡ Close gone ∷ Show again begins ∷ Show again (codes ":a!b@c PRIVMSG #x :[22:13:20] hi") ∷ Show again ends ∷ []
 unfolding effects sent shown closings open_channels named is_channel_known playback kept emptied stored size removes_target is_pushed_out is_removed detached joined made_as is_known targets channels queries stored_query nick attached ids crowd floor id_of holds mark sees placed unseen playback_for at_key spelling stamped timed same_name is_name is_channel kept_lines kept_since stays stored_by
@@ -81,7 +81,7 @@ said_to_the_others : all plain (Client first t (Attach None) ∷ Client second t
 unfolding effects sent shown closings open_channels named is_channel_known playback kept emptied stored size removes_target is_pushed_out is_removed detached joined made_as is_known targets channels queries stored_query nick attached ids crowd floor id_of holds mark sees placed unseen playback_for at_key spelling stamped timed same_name is_name is_channel kept_lines kept_since stays stored_by
 said_to_the_others = refl
 
--- a target that is not known
+-- an unknown target
 no_such_target : all plain (Client first t (Attach None) ∷ Client first t (Play (codes "#y")) ∷ []) ≡ Show first (codes ":*status!bouncer@local PRIVMSG me :No such target.") ∷ []
 unfolding effects sent shown closings open_channels named is_channel_known playback kept emptied stored size removes_target is_pushed_out is_removed detached joined made_as is_known targets channels queries stored_query nick attached ids crowd floor id_of holds mark sees placed unseen playback_for at_key spelling stamped timed same_name is_name is_channel kept_lines kept_since stays stored_by
 no_such_target = refl
@@ -90,7 +90,7 @@ no_such_target = refl
 abbrev status_first : List ℕ → Effect
 status_first text = Show first (codes ":*status!bouncer@local PRIVMSG me :" ++ text)
 
--- what is kept is let go by its name, however it is written, and so is all of it; what is not known is not
+-- what is kept is removed by name, in whatever case it is written, and so is all of it; an unknown name is not
 cleared : all (record plain { clears_channels = false }) (Client first t (Attach None) ∷ says t (codes "hi") ∷ Client first t (Clear (codes "#y")) ∷ Client first t ClearQueries ∷ Client first t (Play x) ∷ Client first t (Clear (codes "#X")) ∷ Client first t (Play x) ∷ [])
     ≡ Show first (codes ":a!b@c PRIVMSG #x :hi") ∷ status_first (codes "No such target.") ∷ status_first (codes "Done.")
     ∷ Show first begins ∷ Show first (codes ":a!b@c PRIVMSG #x :[22:13:20] hi") ∷ Show first ends ∷ status_first (codes "Done.") ∷ []
@@ -103,7 +103,7 @@ passed_on : all plain (Client second t (Pass (bare (codes "WHOIS") (x ∷ []))) 
 unfolding effects sent shown closings open_channels named is_channel_known playback kept emptied stored size removes_target is_pushed_out is_removed detached joined made_as is_known targets channels queries stored_query nick attached ids crowd floor id_of holds mark sees placed unseen playback_for at_key spelling stamped timed same_name is_name is_channel kept_lines kept_since stays stored_by
 passed_on = refl
 
--- a line that went because of a size does not come back with a larger one
+-- a line that was dropped because of the size does not come back with a larger one
 sized_and_sized_again : all (record plain { clears_channels = false })
     (Client first t (Attach None) ∷ says t (codes "one") ∷ says t (codes "two") ∷ Client first t (SetBuffer (codes "#X") 1) ∷ Client first t (SetBuffer x 50) ∷ Client first t (Play x) ∷ [])
     ≡ Show first (codes ":a!b@c PRIVMSG #x :one") ∷ Show first (codes ":a!b@c PRIVMSG #x :two") ∷ status_first (codes "Done.") ∷ status_first (codes "Done.")
@@ -111,18 +111,19 @@ sized_and_sized_again : all (record plain { clears_channels = false })
 unfolding effects sent shown closings open_channels named is_channel_known playback kept emptied stored size removes_target is_pushed_out is_removed detached joined made_as is_known targets channels queries stored_query nick attached ids crowd floor id_of holds mark sees placed unseen playback_for at_key spelling stamped timed same_name is_name is_channel kept_lines kept_since stays stored_by
 sized_and_sized_again = refl
 
--- a size that is not given: it is past what there may be, or the target is not known
+-- a size that is refused: it is past the limit, or the target is unknown
 no_such_size : all plain (Client first t (Attach None) ∷ Client first t (SetBuffer (codes "#y") 501) ∷ Client first t (SetBuffer (codes "#y") 500) ∷ [])
     ≡ status_first (codes "Size is past 500.") ∷ status_first (codes "No such target.") ∷ []
 unfolding effects sent shown closings open_channels named is_channel_known playback kept emptied stored size removes_target is_pushed_out is_removed detached joined made_as is_known targets channels queries stored_query nick attached ids crowd floor id_of holds mark sees placed unseen playback_for at_key spelling stamped timed same_name is_name is_channel kept_lines kept_since stays stored_by
 no_such_size = refl
 
--- each channel is joined again where there is an upstream, in the order of their folded names
+-- when there is an upstream each channel is joined again, in the order of their folded names
 joined_again : all (record plain { channels = codes "#A" ∷ codes "#b" ∷ [] }) (Up ∷ Down ∷ []) ≡ Rejoin (bare (codes "JOIN") (codes "#A" ∷ [])) ∷ Rejoin (bare (codes "JOIN") (codes "#b" ∷ [])) ∷ []
 unfolding effects sent shown closings open_channels named is_channel_known playback kept emptied stored size removes_target is_pushed_out is_removed detached joined made_as is_known targets channels queries stored_query nick attached ids crowd floor id_of holds mark sees placed unseen playback_for at_key spelling stamped timed same_name is_name is_channel kept_lines kept_since stays stored_by
 joined_again = refl
 
--- lines kept past a size go, and a later growth brings none of them back; a channel that is attached again is shown with what was kept
+-- lines kept past a new size are dropped, and a larger size later brings none of them back; a channel that is attached
+-- again is shown with what was kept
 attached_again : all plain
     (Client first t (Attach None) ∷ Client first t (Detach x) ∷ says t (codes "one") ∷ says (t + 1) (codes "two") ∷ says (t + 2) (codes "three") ∷ Client first t (SetBuffer x 2) ∷ Client first t (SetBuffer x 50) ∷ Client first t (Reattach x) ∷ [])
     ≡ Show first (codes ":me!bouncer@local PART #x") ∷ status_first (codes "Done.") ∷ status_first (codes "Done.")
@@ -137,7 +138,8 @@ nothing_kept : all plain (Client first t (Attach None) ∷ Client first t (SetBu
 unfolding effects sent shown closings open_channels named is_channel_known playback kept emptied stored size removes_target is_pushed_out is_removed detached joined made_as is_known targets channels queries stored_query nick attached ids crowd floor id_of holds mark sees placed unseen playback_for at_key spelling stamped timed same_name is_name is_channel kept_lines kept_since stays stored_by
 nothing_kept = refl
 
--- a detached channel is attached again by a Join, however its name is written, and shown as it was made
+-- a Join attaches a detached channel again, in whatever case its name is written; it is shown under the name it was
+-- made with
 joined_in_another_case : all plain (Upstream t (line_of (codes "me!u@h") (codes "JOIN") (x ∷ [])) ∷ Client first t (Attach None) ∷ Client first t (Detach (codes "#X")) ∷ says t (codes "hi") ∷ Client first t (Join (codes "#X")) ∷ [])
     ≡ Show first (codes ":me!bouncer@local JOIN #x") ∷ Send first (bare (codes "NAMES") (x ∷ [])) ∷ Show first (codes ":me!bouncer@local PART #x")
     ∷ Show first (codes ":me!bouncer@local JOIN #x") ∷ Show first begins ∷ Show first (codes ":a!b@c PRIVMSG #x :[22:13:20] hi") ∷ Show first ends
@@ -145,20 +147,20 @@ joined_in_another_case : all plain (Upstream t (line_of (codes "me!u@h") (codes 
 unfolding effects sent shown closings open_channels named is_channel_known playback kept emptied stored size removes_target is_pushed_out is_removed detached joined made_as is_known targets channels queries stored_query nick attached ids crowd floor id_of holds mark sees placed unseen playback_for at_key spelling stamped timed same_name is_name is_channel kept_lines kept_since stays stored_by
 joined_in_another_case = refl
 
--- where one query may be, the later one stays
+-- where only one query is allowed, the later one stays
 one_query : all (record plain { most_queries = 1 })
     (Upstream t (line_of (codes "bob!b@c") (codes "PRIVMSG") (codes "me" ∷ codes "yo" ∷ [])) ∷ Upstream t (line_of (codes "carol!d@e") (codes "PRIVMSG") (codes "me" ∷ codes "yo" ∷ [])) ∷ Client first t (Attach None) ∷ [])
     ≡ Show first (codes ":***!bouncer@local PRIVMSG carol :Buffer Playback...") ∷ Show first (codes ":carol!d@e PRIVMSG me :[22:13:20] yo") ∷ Show first (codes ":***!bouncer@local PRIVMSG carol :Playback Complete.") ∷ []
 unfolding effects sent shown closings open_channels named is_channel_known playback kept emptied stored size removes_target is_pushed_out is_removed detached joined made_as is_known targets channels queries stored_query nick attached ids crowd floor id_of holds mark sees placed unseen playback_for at_key spelling stamped timed same_name is_name is_channel kept_lines kept_since stays stored_by
 one_query = refl
 
--- the own nick changes by the server's welcome, which is shown to none, and by a line of its own
+-- the own nick changes with the server's welcome, which is shown to nobody, and with a NICK line of its own
 another_nick : all plain (Client first t (Attach None) ∷ Upstream t (line_of (codes "s") (codes "001") (codes "you" ∷ codes "hello" ∷ [])) ∷ Upstream t (line_of (codes "you!u@h") (codes "NICK") (codes "they" ∷ [])) ∷ Client first t ClearAll ∷ [])
     ≡ Show first (codes ":you!u@h NICK they") ∷ Show first (codes ":*status!bouncer@local PRIVMSG they :Done.") ∷ []
 unfolding effects sent shown closings open_channels named is_channel_known playback kept emptied stored size removes_target is_pushed_out is_removed detached joined made_as is_known targets channels queries stored_query nick attached ids crowd floor id_of holds mark sees placed unseen playback_for at_key spelling stamped timed same_name is_name is_channel kept_lines kept_since stays stored_by
 another_nick = refl
 
--- a channel is made by a JOIN of the own nick and goes with its PART; what is not known is asked for as it is written
+-- a channel is made by a JOIN of the own nick and goes with its PART; an unknown one is requested as it was written
 made_and_gone : all plain
     (Client first t (Attach None) ∷ Client first t (Join (codes "#Y")) ∷ Upstream t (line_of (codes "me!u@h") (codes "JOIN") (codes "#Y" ∷ [])) ∷ Client first t (Join (codes "#y")) ∷ Client first t (Play (codes "#y"))
     ∷ Client first t (Part (codes "#y")) ∷ Upstream t (line_of (codes "me!u@h") (codes "PART") (codes "#y" ∷ [])) ∷ Client first t (Play (codes "#Y")) ∷ Client first t (Part x) ∷ Up ∷ [])

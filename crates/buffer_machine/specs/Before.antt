@@ -1,4 +1,4 @@
--- The buffers as they were before clients could give names: what each changed definition says where no client ever did.
+-- The buffers as they were before clients could give names: what each changed definition says if no client ever did.
 use Rattle.std.specs.Prelude.{ℕ, Bool, false, not, ◌&&◌, ◌||◌, if◌then◌else◌, ◌==◌, nat_lt, List, [], ◌∷◌, ◌++◌, map, filter, flat_map, Option, None, codes}
 use Rattle.std.specs.List.{list_all}
 use Rattle.irc_line.specs.Names.{fold_name, is_channel}
@@ -26,7 +26,7 @@ abbrev pub was_taken : Settings → List Command → Command → Bool
 was_taken s earlier (Client o at (Attach id)) = can_attach (floor earlier o.0) (attached s earlier) o
 was_taken s earlier _ = false
 
--- who was attached after one command more
+-- who was attached after one more command
 abbrev pub attached_before : Bool → (ℕ → ℕ) → List Origin → Command → List Origin
 attached_before many floors was (Client o at (Attach id)) =
     if can_attach (floors o.0) was o then ((if many then was else []) ++ o ∷ []) else was
@@ -69,7 +69,7 @@ closings_before s earlier (Client o at a) =
     closed_before s.many_clients (was_taken s earlier (Client o at a)) (floor earlier o.0) (attached s earlier) (Client o at a)
 closings_before s earlier _ = []
 
--- a channel that was attached again, to all: that it is joined, and what was kept
+-- a channel that was attached again, shown to all: that it is joined, and what was kept
 abbrev pub again_before : Settings → List Command → List Origin → List ℕ → List ℕ → List Effect
 again_before s earlier os own c = show_each os (own_line own (codes "JOIN") (named s earlier c) ∷ playback s earlier (fold_name c))
 
@@ -83,7 +83,7 @@ by_before s earlier os own o (Reattach c) =
     if detached s earlier (fold_name c) then again_before s earlier os own c else []
 by_before s earlier os own o a = shown_by s earlier os own o a
 
--- what a client was shown whose Attach was taken
+-- what a client was shown when its Attach was taken
 abbrev pub attaching_before : Settings → List Command → List ℕ → Origin → List Effect
 attaching_before s earlier own o =
     flat_map (λ c. show_all o (if_some (joined s earlier (fold_name c)) (own_line own (codes "JOIN") c ∷ []) ++ playback s earlier (fold_name c))) (open_channels s earlier)
@@ -98,6 +98,6 @@ shown_before s earlier (Client o at a) =
 shown_before s earlier (Upstream at line) = if is_shown s earlier line then show_each (attached s earlier) (line ∷ []) else []
 shown_before s earlier _ = []
 
--- all of it, in this order; what was sent is what is sent
+-- all of it, in this order; what was sent has not changed
 abbrev pub effects_before : Settings → List Command → Command → List Effect
 effects_before s earlier x = closings_before s earlier x ++ shown_before s earlier x ++ sent s earlier x

@@ -1,6 +1,6 @@
--- What is so of the buffers after the commands that came. A history is the list of these commands, the newest first.
--- Each is a recursion of its own over the history: one step from what was so before the newest command.
--- What is so of a target goes by its key, a folded name.
+-- What holds of the buffers after the commands that came. A history is the list of these commands, the newest first.
+-- Each definition is a recursion of its own over the history: one step from what held before the newest command. A
+-- target is identified by its key, a folded name.
 use Rattle.std.specs.Prelude.{ℕ, Bool, false, not, ◌&&◌, ◌||◌, if◌then◌else◌, nat_lt, List, [], ◌∷◌, ◌++◌, Option, Some, None, filter, find, unwrap_or, codes}
 use Rattle.irc_line.specs.Names.{fold_name, is_channel}
 use Rattle.irc_line.specs.Keys.{at_key, is_in, put_in}
@@ -19,12 +19,12 @@ use Rattle.buffer_commands.specs.Settings.{size_limit}
 
 -- The own nick
 
--- the own nick after one command more
+-- the own nick after one more command
 abbrev pub nick_after : List ℕ → Command → List ℕ
 nick_after was (Upstream at line) = if is_new_nick was line then parameter 0 line else was
 nick_after was _ = was
 
--- the setup's, until the server's welcome or a change of it
+-- the setup's nick, until the server's welcome or a change of it
 unfoldable pub nick : Settings → List Command → List ℕ
 nick s [] = s.nick
 nick s (x ∷ earlier) = nick_after (nick s earlier) x
@@ -47,13 +47,14 @@ unfoldable pub joined : Settings → List Command → List ℕ → Bool
 joined s [] c = false
 joined s (x ∷ earlier) c = joined_after (nick s earlier) c (joined s earlier c) x
 
--- whether a command removes the channel of this key, by what was so before it
+-- whether a command removes the channel of this key, by what held before it
 abbrev pub removes : List Origin → List ℕ → Bool → List ℕ → Command → Bool
 removes attached nick joined c (Client o at (Part d)) = is_among o attached && at_key c d && not joined
 removes attached nick joined c (Upstream at line) = is_own_at (codes "PART") nick c line
 removes attached nick joined c _ = false
 
--- whether a command removes a channel, where it is known: a client's Part of one that is not joined, or PART by the own nick
+-- whether a command removes a channel, if it is known: a client's Part of one that is not joined, or PART by the own
+-- nick
 unfoldable pub is_removed : Settings → List Command → List ℕ → Command → Bool
 is_removed s earlier c x = removes (attached s earlier) (nick s earlier) (joined s earlier c) c x
 
@@ -62,18 +63,18 @@ abbrev pub made_by : List ℕ → Command → Option (List ℕ)
 made_by nick (Upstream at line) = if is_own (codes "JOIN") nick line then Some (parameter 0 line) else None
 made_by nick _ = None
 
--- one name more, where none of its key is there
+-- one more name, if none has its key
 abbrev pub with_made : Option (List ℕ) → List (List ℕ) → List (List ℕ)
 with_made None names = names
 with_made (Some c) names = if is_in (fold_name c) names then names else put_in c names
 
--- the channels that were made and not removed, by the spelling of their making, in order of their keys
+-- the channels that were made and not removed, by the names they were made with, in the order of their keys
 unfoldable pub channels : Settings → List Command → List (List ℕ)
 channels s [] = s.channels
 channels s (x ∷ earlier) =
     filter (λ c. not (is_removed s earlier (fold_name c) x)) (with_made (made_by (nick s earlier) x) (channels s earlier))
 
--- whether a channel is detached after one command more
+-- whether a channel is detached after one more command
 abbrev pub detached_after : List Origin → Bool → List ℕ → Bool → Command → Bool
 detached_after attached known c was (Client o at (Detach d)) = was || (is_among o attached && known && at_key c d)
 detached_after attached known c was (Client o at (Reattach d)) = was && not (is_among o attached && at_key c d)
@@ -95,7 +96,7 @@ said attached nick (Client o at (Say verb target text)) =
 said attached nick (Upstream at line) = Some (at, line)
 said attached nick _ = None
 
--- the target that a line is for: a known channel, or the query of one who writes to the own nick
+-- the target that a line is for: a known channel, or the query of a sender who writes to the own nick
 abbrev pub aim : List (List ℕ) → List ℕ → Parts → Option (List ℕ)
 aim channels nick line =
     if not (is_storable line)
@@ -111,7 +112,7 @@ abbrev pub is_for : List ℕ → Option (List ℕ) → Bool
 is_for t None = false
 is_for t (Some name) = at_key t name
 
--- whether a target is emptied where it is played
+-- whether a target is emptied when it is played
 abbrev pub clears : Settings → List ℕ → Bool
 clears s t = if is_channel t then s.clears_channels else s.clears_queries
 
@@ -147,32 +148,32 @@ stored_query s earlier x =
     let own = nick s earlier in
     if keeps s.clears_queries os (ids s earlier) then query_aim (channels s earlier) own (said os own x) else None
 
--- one name more at the end, where none of its key is there
+-- one more name at the end, if none has its key
 abbrev pub with_new : Option (List ℕ) → List (List ℕ) → List (List ℕ)
 with_new None names = names
 with_new (Some c) names = if is_in (fold_name c) names then names else names ++ c ∷ []
 
--- the queries that were made, each by its first stored line, and not removed, in order of making; past the most that there
--- may be, the oldest made goes
+-- the queries that were made, each by the first line stored in it, and not removed, in the order in which they were
+-- made; past the most queries allowed, the one made first is removed
 unfoldable pub queries : Settings → List Command → List (List ℕ)
 queries s [] = []
 queries s (x ∷ earlier) = newest s.most_queries (with_new (stored_query s earlier x) (queries s earlier))
 
 -- Targets
 
--- what lines are kept of
+-- the targets for which lines are kept
 unfoldable pub targets : Settings → List Command → List (List ℕ)
 targets s history = channels s history ++ queries s history
 
--- whether a target is a channel or a query that lines are kept of
+-- whether a target is a channel or a query for which lines are kept
 unfoldable pub is_known : Settings → List Command → List ℕ → Bool
 is_known s history t = is_in t (targets s history)
 
--- the spelling under which a target was made, and the key itself where there is none
+-- the name with which a target was made, or the key itself if there is none
 unfoldable pub made_as : Settings → List Command → List ℕ → List ℕ
 made_as s history t = unwrap_or (find (at_key t) (targets s history)) t
 
--- whether a command removes a query: it makes another for which there is no room
+-- whether a command removes a query because it makes another for which there is no room
 unfoldable pub is_pushed_out : Settings → List Command → List ℕ → Command → Bool
 is_pushed_out s earlier t x = is_in t (queries s earlier) && not (is_in t (queries s (x ∷ earlier)))
 
@@ -184,11 +185,11 @@ removes_target s earlier t x = if is_channel t then is_removed s earlier t x els
 abbrev pub first_size : Settings → List ℕ → ℕ
 first_size s t = if is_channel t then s.channel_size else s.query_size
 
--- a size that no target may have
+-- a size that is not allowed
 abbrev pub is_past : ℕ → Bool
 is_past size = nat_lt size_limit size
 
--- how many lines a target keeps after one command more that does not remove it
+-- how many lines a target keeps after one more command that does not remove it
 abbrev pub size_after : List Origin → Bool → List ℕ → ℕ → Command → ℕ
 size_after attached known t was (Client o at (SetBuffer u n)) =
     if is_among o attached && not (is_past n) && known && at_key t u then n else was
@@ -202,7 +203,8 @@ size s t (x ∷ earlier) =
 
 -- What is kept
 
--- whether a command plays a target to some client: an Attach that is taken, Reattach or Join of a detached channel, or Play
+-- whether a command plays a target to some client: an Attach that is taken, Reattach or Join of a detached channel, or
+-- Play
 abbrev pub plays : Bool → List Origin → Bool → List ℕ → Bool → Command → Bool
 plays taken attached detached t known (Client o at (Attach id)) = taken && known && not detached
 plays taken attached detached t known (Client o at (Reattach c)) = is_among o attached && known && detached && at_key t c
@@ -210,7 +212,7 @@ plays taken attached detached t known (Client o at (Join c)) = is_among o attach
 plays taken attached detached t known (Client o at (Play u)) = is_among o attached && known && at_key t u
 plays taken attached detached t known _ = false
 
--- whether a command clears a target, whatever its option is
+-- whether a command clears a target, whatever the setup says of playing
 abbrev pub is_cleared : List Origin → Bool → List ℕ → Bool → Command → Bool
 is_cleared attached channel t known (Client o at (Clear u)) = is_among o attached && known && at_key t u
 is_cleared attached channel t known (Client o at ClearChannels) = is_among o attached && channel
@@ -218,7 +220,7 @@ is_cleared attached channel t known (Client o at ClearQueries) = is_among o atta
 is_cleared attached channel t known (Client o at ClearAll) = is_among o attached
 is_cleared attached channel t known _ = false
 
--- whether playing empties what it plays: no client had a name, nor has the one of this command
+-- whether playing empties what it plays: no client had a name, and this command gives none
 abbrev pub empties : List (List ℕ) → Command → Bool
 empties ids x = not (is_some_of ids) && not (is_naming x)
 
@@ -234,6 +236,6 @@ emptied s t earlier x =
 unfoldable pub kept : Settings → List Command → List ℕ → List (ℕ × Parts)
 kept s history t = kept_lines (stored s t) (emptied s t) (size s t) history
 
--- the kept lines with their times, between the frame lines, under the spelling of the target's making
+-- the kept lines with their times, between the frame lines, under the name with which the target was made
 unfoldable pub playback : Settings → List Command → List ℕ → List Parts
 playback s history t = if is_known s history t then framed s.offset (made_as s history t) (kept s history t) else []

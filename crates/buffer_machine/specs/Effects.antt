@@ -25,19 +25,19 @@ show_all o lines = map (λ line. Show o (spelling line)) lines
 abbrev pub send_all : Origin → List Parts → List Effect
 send_all o lines = map (λ line. Send o line) lines
 
--- lines, by their spelling, shown to a client
+-- lines, given by their spelling, shown to a client
 abbrev pub copies : List (List ℕ) → Origin → List Effect
 copies lines o = map (λ x. Show o x) lines
 
--- the same lines shown to each of these
+-- the same lines shown to each of these clients
 abbrev pub show_each : List Origin → List Parts → List Effect
 show_each os lines = flat_map (λ p. show_all p lines) os
 
--- an answer of the bouncer's own to one client
+-- an answer of the bouncer itself to one client
 abbrev pub status : List ℕ → Origin → List ℕ → List Effect
 status nick o text = Show o (spelling (line_of (codes "*status!bouncer@local") (codes "PRIVMSG") (nick ∷ text ∷ []))) ∷ []
 
--- a channel as it was made; one that is not known, as it was asked for
+-- a channel by the name it was made with; an unknown one by the requested name
 unfoldable pub named : Settings → List Command → List ℕ → List ℕ
 named s history c = unwrap_or (find (at_key (fold_name c)) (channels s history)) c
 
@@ -49,10 +49,10 @@ is_channel_known s history c = is_in (fold_name c) (channels s history)
 unfoldable pub open_channels : Settings → List Command → List (List ℕ)
 open_channels s earlier = filter (λ c. not (detached s earlier (fold_name c))) (channels s earlier)
 
--- What is closed: an asker that is not attached, one below its node's floor or without room for its name, and the others where one
--- client alone may be attached
+-- What is closed: an asker that is not attached, one below its node's floor or without room for its name, and the
+-- others if only one client may be attached
 
--- who is closed, by what was so before the command
+-- who is closed, by what held before the command
 abbrev pub closed : Bool → Bool → List Origin → Command → List Effect
 closed many taken os (Client o at (Attach id)) =
     if taken then (if many then [] else map Close os) else (if is_among o os then [] else Close o ∷ [])
@@ -67,11 +67,11 @@ closings s earlier _ = []
 
 -- What is shown
 
--- a list where this is so
+-- a list, if this holds
 abbrev pub if_some : {A : Type 0} → Bool → List A → List A
 if_some b xs = if b then xs else []
 
--- a channel that is attached again, to all: that it is joined, and what each is played of it
+-- a channel that is attached again, shown to all: that it is joined, and what each is played of it
 abbrev pub shown_again : Settings → List Command → List Origin → List ℕ → List ℕ → List Effect
 shown_again s earlier os own c =
     flat_map (λ p. show_all p (own_line own (codes "JOIN") (named s earlier c) ∷ playback_by s earlier (id_of s earlier p) (fold_name c))) os
@@ -107,13 +107,14 @@ shown_by s earlier os own o (SetBuffer t n) =
     status own o (if is_past n then codes "Size is past 500." else if is_known s earlier (fold_name t) then codes "Done." else codes "No such target.")
 shown_by s earlier os own o (Pass line) = []
 
--- to a client whose Attach is taken: each channel that is not detached, then each query in order of making
+-- to a client whose Attach is taken: each channel that is not detached, then each query in the order in which they were
+-- made
 abbrev pub shown_attaching : Settings → List Command → List ℕ → Origin → Option (List ℕ) → List Effect
 shown_attaching s earlier own o id =
     flat_map (λ c. show_all o (if_some (joined s earlier (fold_name c)) (own_line own (codes "JOIN") c ∷ []) ++ playback_by s earlier id (fold_name c))) (open_channels s earlier)
     ++ flat_map (λ q. show_all o (playback_by s earlier id (fold_name q))) (queries s earlier)
 
--- a line from upstream is shown to all, but the server's welcome, and a line of a channel that is detached
+-- a line from upstream is shown to all, except the server's welcome and a line of a detached channel
 abbrev pub is_shown : Settings → List Command → Parts → Bool
 is_shown s earlier line = not (has_command (codes "001") line || detached s earlier (fold_name (channel_of line)))
 
@@ -128,7 +129,7 @@ shown s earlier _ = []
 
 -- What is sent, or joined again
 
--- a channel that is attached again: who is in it, or that it is joined
+-- for a channel that is attached again: NAMES, or JOIN if it is not joined
 abbrev pub sent_again : Settings → List Command → List ℕ → List Parts
 sent_again s earlier c = bare (if joined s earlier (fold_name c) then codes "NAMES" else codes "JOIN") (named s earlier c ∷ []) ∷ []
 
@@ -146,7 +147,7 @@ sent_by s earlier (Reattach c) = if detached s earlier (fold_name c) then sent_a
 sent_by s earlier (Pass line) = line ∷ []
 sent_by s earlier _ = []
 
--- what goes upstream by a command
+-- what a command sends upstream
 unfoldable pub sent : Settings → List Command → Command → List Effect
 sent s earlier (Client o at (Attach id)) =
     if takes s earlier (Client o at (Attach id))
@@ -160,7 +161,7 @@ sent s earlier _ = []
 unfoldable pub effects : Settings → List Command → Command → List Effect
 effects s earlier x = closings s earlier x ++ shown s earlier x ++ sent s earlier x
 
--- what asks for no memory: the end of the upstream, a node that is gone, and Leave of one who is attached
+-- a command that allocates nothing: the end of the upstream, a node that is gone, and Leave of an attached client
 abbrev pub TakesNone : List Origin → Command → Type 0
 TakesNone attached (Client o at Leave) = is_among o attached ≡ true
 TakesNone attached (NodeGone node boot) = ⊤

@@ -12,7 +12,7 @@ abbrev pub floors_after : List ℕ → Command → List ℕ
 floors_after floors (NodeGone node floor) = raised node floor floors
 floors_after floors _ = floors
 
--- the floor of a command's client's node
+-- the floor of the node of a command's client
 abbrev pub floor_for : List ℕ → Command → ℕ
 floor_for floors (Client o at action) = slice_index floors o.0
 floor_for floors _ = 0

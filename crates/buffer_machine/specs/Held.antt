@@ -18,7 +18,7 @@ use Rattle.buffer_machine.specs.Marks.{seen}
 abbrev pub commands : History Command → List Command
 commands history = map (λ x. x.1) history
 
--- a setup's channels are channels' names in rising order, and there may be a query
+-- a setup's channels are channels' names in rising order, and at least one query is allowed
 pub record IsSound (s : Settings) : Type 0 where
   pub rising : are_rising s.channels ≡ true
   pub channels : list_all is_channel s.channels ≡ true
@@ -29,17 +29,18 @@ pub record AreFloors (floors : List ℕ) (history : List Command) : Type 0 where
   pub count : length floors ≡ 8
   pub each : (node : ℕ) → node < 8 → slice_index floors node ≡ floor history node
 
--- where a name stands among these
+-- the place of a name among these
 abbrev pub index_in : List ℕ → List (List ℕ) → ℕ
 index_in id [] = 0
 index_in id (x ∷ xs) = if same_bytes id x then 0 else suc (index_in id xs)
 
--- an origin that has a name, with where that stands among these
+-- an origin that has a name, with the place of that name among these
 abbrev pub holder : List (List ℕ) → Origin → Option (List ℕ) → List (Origin × ℕ)
 holder ids o None = []
 holder ids o (Some id) = (o, index_in id ids) ∷ []
 
--- the names that were given, and the attached origins that have one, in order of attaching, each with where its name stands
+-- the names that were given, and the attached origins that have one, in the order in which they attached, each with the
+-- place of its name
 pub record Names : Type 0 where
   pub ids : List (List ℕ)
   pub holders : List (Origin × ℕ)
@@ -55,7 +56,7 @@ names_code =
     code_by (List (List ℕ) × List (Origin × ℕ)) (coded× (coded_list (coded_list coded_ℕ)) (coded_list (coded× origin_code coded_ℕ)))
     (λ n. (n.ids, n.holders)) (λ p. record { ids = p.0; holders = p.1 }) (λ _. refl)
 
--- names of clients, of their two parts
+-- names of clients, from their two parts
 abbrev pub names_of : List (List ℕ) → List (Origin × ℕ) → Names
 names_of ids holders = record { ids = ids; holders = holders }
 
@@ -64,7 +65,8 @@ abbrev pub names_held : Settings → List Command → Names
 names_held s history =
     names_of (ids s history) (flat_map (λ o. holder (ids s history) o (id_of s history o)) (attached s history))
 
--- the own nick, who is attached and by which names, the channels in order of their keys, and the queries in order of making
+-- the own nick, who is attached and by which names, the channels in the order of their keys, and the queries in the
+-- order in which they were made
 pub record Held : Type 0 where
   pub nick : List ℕ
   pub clients : List Origin
@@ -72,12 +74,12 @@ pub record Held : Type 0 where
   pub channels : List ChannelLines
   pub queries : List TargetLines
 
--- what is held, of its five parts
+-- what is held, from its five parts
 abbrev pub holding : List ℕ → List Origin → Names → List ChannelLines → List TargetLines → Held
 holding nick clients names channels queries =
     record { nick = nick; clients = clients; names = names; channels = channels; queries = queries }
 
--- a number for each of these names, and 0 for all further ones that there may be
+-- a number for each of these names, and 0 up to the number of names that there may be
 abbrev pub for_each : (List ℕ → ℕ) → ℕ → List (List ℕ) → List ℕ
 for_each f zero ids = []
 for_each f (suc more) [] = 0 ∷ for_each f more []

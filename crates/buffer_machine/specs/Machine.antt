@@ -13,7 +13,8 @@ use Rattle.buffer_machine.specs.declared.machine.BufferMachine.{BufferMachine}
 abbrev pub held_of : Buffers → Held
 held_of b = holding b.nick b.clients b.names b.channels b.queries
 
--- the machine holds its setup, the floors, the own nick, the clients that are attached and what each target keeps, and no memory was wanting
+-- the machine holds its setup, the floors, the own nick, the clients that are attached and what each target keeps, and
+-- memory never ran out
 pub record Stands (m : BufferMachine) (s : Settings) (history : History Command) : Type 0 where
   pub setup : m.setup ≡ s
   pub sound : IsSound s

@@ -1,4 +1,4 @@
--- What each name has seen of each target, and what it is played. Names are those that clients give as they attach.
+-- What each name has seen of each target, and what is played to it. Names are those that clients give when they attach.
 use Rattle.std.specs.Prelude.{ℕ, suc, Bool, false, not, ◌&&◌, ◌||◌, if◌then◌else◌, nat_lt, List, [], ◌∷◌, length, map, filter, Option, Some, None, option_map}
 use Rattle.irc_line.specs.Names.{is_channel}
 use Rattle.irc_line.specs.Lines.{Parts}
@@ -12,8 +12,8 @@ use Rattle.buffer_commands.specs.declared.command.Command.TheVariants.{Client}
 use Rattle.buffer_machine.specs.Crowd.{attached, takes, is_id, id_of, holds}
 use Rattle.buffer_machine.specs.Buffers.{detached, emptied, is_known, made_as, playback, plays, size, stored}
 
--- whether what a command plays is shown to a client of this name, by whether one is attached: to the one who attaches or asks,
--- and to all of a channel that is attached again
+-- whether what a command plays is shown to a client of this name, by whether one is attached: to the client that
+-- attaches or asks, and to all if a channel is attached again
 abbrev pub is_shown_to : List ℕ → Bool → (Origin → Option (List ℕ)) → Command → Bool
 is_shown_to id here ids_of (Client o at (Attach given)) = is_id id given
 is_shown_to id here ids_of (Client o at (Play t)) = is_id id (ids_of o)
@@ -21,15 +21,16 @@ is_shown_to id here ids_of (Client o at (Reattach c)) = here
 is_shown_to id here ids_of (Client o at (Join c)) = here
 is_shown_to id here ids_of _ = false
 
--- whether a client of this name sees all that there is of a target at a command: one is attached, and the target is no detached
--- channel; or the command plays the target to one
+-- whether a client of this name sees all that there is of a target at a command: one is attached, and the target is no
+-- detached channel; or the command plays the target to one
 unfoldable pub sees : Settings → List Command → List ℕ → List ℕ → Command → Bool
 sees s earlier id t x =
     let hidden = is_channel t && detached s earlier t in
     (holds s earlier id && not hidden)
     || (plays (takes s earlier x) (attached s earlier) hidden t (is_known s earlier t) x && is_shown_to id (holds s earlier id) (id_of s earlier) x)
 
--- the greatest place at which a client of this name saw all that there was of a target, 0 without one; the first command is at 1
+-- the greatest place at which a client of this name saw all that there was of a target, 0 if none did; the first
+-- command is at 1
 unfoldable pub mark : Settings → List ℕ → List ℕ → List Command → ℕ
 mark s id t [] = 0
 mark s id t (x ∷ earlier) = if sees s earlier id t x then suc (length earlier) else mark s id t earlier
@@ -55,7 +56,7 @@ unfoldable pub playback_for : Settings → List Command → List ℕ → List �
 playback_for s history id t =
     if is_known s history t then framed s.offset (made_as s history t) (unseen s history id t) else []
 
--- what a client is played of a target: all that is kept, and by its name, if it has one, what that has not seen
+-- what is played of a target to a client: all that is kept or, if it has a name, what that has not seen
 abbrev pub playback_by : Settings → List Command → Option (List ℕ) → List ℕ → List Parts
 playback_by s history None t = playback s history t
 playback_by s history (Some id) t = playback_for s history id t

@@ -14,7 +14,7 @@ use Rattle.buffer_machine.specs.declared.message.ChannelWord.TheVariants.{Join, 
 abbrev pub is_among : Origin → List Origin → Bool
 is_among o os = list_any (same_origin o) os
 
--- there is no origin here
+-- the list has no origins
 abbrev pub is_none_of : List Origin → Bool
 is_none_of [] = true
 is_none_of (o ∷ os) = false
@@ -27,7 +27,7 @@ has_command word line = same_bytes line.command word
 abbrev pub is_message : Parts → Bool
 is_message line = has_command (codes "PRIVMSG") line || has_command (codes "NOTICE") line
 
--- of the client-to-client messages only ACTION
+-- no client-to-client (CTCP) message except ACTION
 abbrev pub is_plain_or_action : List ℕ → Bool
 is_plain_or_action text = not (first_is 1 text) || begins_with text action_mark
 
@@ -47,11 +47,11 @@ is_by nick line = is_some line.prefix && same_name (source line) nick
 abbrev pub is_own : List ℕ → List ℕ → Parts → Bool
 is_own word nick line = has_command word line && is_by nick line && is_channel (parameter 0 line)
 
--- a line that puts this nick out of a channel
+-- a line that kicks this nick from a channel
 abbrev pub is_own_kick : List ℕ → Parts → Bool
 is_own_kick nick line = has_command (codes "KICK") line && same_name nick (parameter 1 line) && is_channel (parameter 0 line)
 
--- a line that gives this nick another: the server's welcome, or a change of the nick's own
+-- a line that gives this nick another: the server's welcome, or a NICK of its own
 abbrev pub is_new_nick : List ℕ → Parts → Bool
 is_new_nick nick line = is_name (parameter 0 line) && (has_command (codes "001") line || (has_command (codes "NICK") line && is_by nick line))
 
@@ -59,7 +59,7 @@ is_new_nick nick line = is_name (parameter 0 line) && (has_command (codes "001")
 abbrev pub is_query_name : List ℕ → Bool
 is_query_name name = is_name name && not (is_channel name)
 
--- a message to this nick from one who may have a query
+-- a message to this nick from a sender who may have a query
 abbrev pub is_query_line : List ℕ → Parts → Bool
 is_query_line nick line = has_command (codes "PRIVMSG") line && is_some line.prefix && same_name nick (parameter 0 line) && is_query_name (source line)
 
@@ -72,7 +72,7 @@ names_first line =
 abbrev pub names_second : Parts → Bool
 names_second line = list_any (λ w. has_command w line) (codes "332" ∷ codes "366" ∷ codes "403" ∷ [])
 
--- the channel that a line names, whatever stands there; no bytes where its command names none
+-- the channel that a line names, whatever that name is; no bytes where its command names none
 abbrev pub channel_of : Parts → List ℕ
 channel_of line =
     if names_first line

@@ -10,25 +10,25 @@ use Rattle.machine_laws.specs.Origins.{same_origin}
 use Rattle.buffer_machine.specs.Crowd.{is_taken, with_id}
 use Rattle.buffer_machine.specs.Held.{Held, Names, holder, names_of}
 
--- the readers from this one on, so many, by whether a client is attached that is the reader
+-- whether an attached client has each reader, for this many readers from this one on
 abbrev pub flags_from : ℕ → ℕ → List (Origin × ℕ) → List Bool
 flags_from i zero holders = []
 flags_from i (suc more) holders = list_any (λ h. h.1 == i) holders ∷ flags_from (suc i) more holders
 
--- the readers of whom a client is attached now: a reader for each name
+-- the readers with an attached client, one reader for each name
 abbrev pub here_from : ℕ → List (Origin × ℕ) → List (List ℕ) → List Bool
 here_from i holders [] = []
 here_from i holders (id ∷ ids) = list_any (λ h. h.1 == i) holders ∷ here_from (suc i) holders ids
 
--- the readers who are here, of all that there may be
+-- the readers who are here, out of all that there may be
 abbrev pub flags : List (Origin × ℕ) → List Bool
 flags holders = flags_from 0 readers holders
 
--- each stands below this place
+-- each has a place below this one
 abbrev pub stand_below : ℕ → List (Origin × ℕ) → Bool
 stand_below n holders = list_all (λ h. nat_lt h.1 n) holders
 
--- a client attached by a name, behind all others
+-- a client attached by a name, after all others
 abbrev pub with_holder : Origin → List ℕ → Names → Names
 with_holder o id was = names_of (with_id (Some id) was.ids) (was.holders ++ holder (with_id (Some id) was.ids) o (Some id))
 
@@ -36,11 +36,12 @@ with_holder o id was = names_of (with_id (Some id) was.ids) (was.holders ++ hold
 abbrev pub here_of : Names → List Bool
 here_of names = here_from 0 names.holders names.ids
 
--- the readers who see what comes for a channel now, by whether it is detached: nobody sees what comes for a detached one
+-- the readers who see what comes for a channel now, by whether it is detached: nobody sees what comes for a detached
+-- one
 abbrev pub here_in : Names → Bool → List Bool
 here_in names hidden = here_of (if hidden then names_of names.ids [] else names)
 
--- where the name of an attached origin stands, if it has one
+-- the place of the name of an attached origin, if it has one
 abbrev pub index_of : Origin → List (Origin × ℕ) → Option ℕ
 index_of o holders = option_map (λ h. h.1) (find (λ h. same_origin o h.0) holders)
 

@@ -1,5 +1,5 @@
--- One step of the machine, on what it holds: what it holds next. These steps need not be believed: that they come to what
--- Buffers defines is proved.
+-- One step of the machine, on what it holds: what it holds next. These steps need not be trusted: it is proved that
+-- they give what Buffers defines.
 use Rattle.std.specs.Prelude.{◌≡◌, ℕ, ◌<◌, Bool, true, false, not, ◌&&◌, ◌||◌, if◌then◌else◌, List, [], map, filter, Option, Some, None, is_some, codes, ⊤}
 use Rattle.irc_line.specs.Names.{fold_name, is_channel}
 use Rattle.irc_line.specs.Lines.{Parts, parameter}
@@ -18,7 +18,7 @@ use Rattle.buffer_machine.specs.Crowd.{attached_after, is_some_of}
 use Rattle.buffer_machine.specs.Held.{Held, Names, holding, index_in, names_of}
 use Rattle.buffer_machine.specs.NameSteps.{here_in, here_of, index_of, names_after, taken_now, with_holder}
 
--- what the types of a command keep: its client's node is one of 1 to 7
+-- what the types of a command guarantee: its client's node is one of 1 to 7
 abbrev pub IsWithinLimits : Command → Type 0
 IsWithinLimits (Client o at action) = o.0 < 8
 IsWithinLimits _ = ⊤
@@ -39,11 +39,11 @@ is_joined (Some c) = c.joined
 abbrev pub found : List ℕ → Held → Option ChannelLines
 found name h = channel_of_key (fold_name name) h.channels
 
--- the place of a key tells whether there is a channel, and whether it is detached
+-- the place of a key says whether there is a channel, and whether it is detached
 abbrev pub IsKnownAt : List ChannelLines → Option ℕ → Bool → Type 0
 IsKnownAt cs place b = (key : List ℕ) → StandsAt key cs place → b ≡ is_some (channel_of_key key cs)
 
--- the place of a key tells whether there is a channel that is detached
+-- the place of a key says whether there is a channel that is detached
 abbrev pub IsDetachedAt : List ChannelLines → Option ℕ → Bool → Type 0
 IsDetachedAt cs place b = (key : List ℕ) → StandsAt key cs place → b ≡ is_detached (channel_of_key key cs)
 
@@ -51,11 +51,11 @@ IsDetachedAt cs place b = (key : List ℕ) → StandsAt key cs place → b ≡ i
 abbrev pub HasPlace : Parts → Held → Option ℕ → Type 0
 HasPlace line h place = StandsAt (fold_name (channel_of line)) h.channels place
 
--- other channels, or other queries, are held
+-- other channels are held, and all else as before
 abbrev pub with_channels : Held → List ChannelLines → Held
 with_channels h cs = holding h.nick h.clients h.names cs h.queries
 
--- other queries are held, and all else as it was
+-- other queries are held, and all else as before
 abbrev pub with_queries : Held → List TargetLines → Held
 with_queries h ts = holding h.nick h.clients h.names h.channels ts
 
@@ -68,7 +68,7 @@ abbrev pub stores_in_query : Settings → Held → Parts → Bool
 stores_in_query s h line =
     is_storable line && not (is_some (found (channel_of line) h)) && keeps s.clears_queries h.clients h.names.ids && is_query_line h.nick line
 
--- a line pushed to the channel that it is for, where that keeps lines now or is detached
+-- a line stored in the channel that it is for, if that keeps lines now or is detached
 abbrev pub channels_storing : Settings → Held → Option (ℕ × Parts) → List ChannelLines
 channels_storing s h None = h.channels
 channels_storing s h (Some line) =
@@ -78,7 +78,7 @@ channels_storing s h (Some line) =
     then at_channel (fold_name (parameter 0 (line.1))) (over (pushed line (here_in h.names (is_detached (channel_of_key (fold_name (parameter 0 (line.1))) h.channels))))) h.channels else h.channels)
     else h.channels
 
--- a line is stored in a query where it is for no channel that is known
+-- a line is stored in a query if it is for no known channel
 abbrev pub queries_storing : Settings → Held → Option (ℕ × Parts) → List TargetLines
 queries_storing s h None = h.queries
 queries_storing s h (Some line) =
@@ -105,15 +105,15 @@ attached_again clears names key cs found =
     then cs
     else at_channel key (over (after_play (clears_now clears names) (here_of names))) (at_channel key (with_detached false) cs)
 
--- the channel of a key that is not joined, let go
+-- the channel of a key is removed if it is not joined
 abbrev pub let_go : List ℕ → List ChannelLines → Option ChannelLines → List ChannelLines
 let_go key cs found = if is_some found && not (is_joined found) then without_channel key cs else cs
 
--- the channel of a name after a client's Join or Reattach, Part, and Detach
+-- what is held after a Reattach, or a Join of a detached channel: the channel of the name is attached again
 abbrev pub reattached : Settings → List ℕ → Held → Held
 reattached s name h = with_channels h (attached_again s.clears_channels h.names (fold_name name) h.channels (found name h))
 
--- what is held after a Part: the channel of the name is let go where the own nick is not in it
+-- what is held after a Part: the channel of the name is dropped where the own nick is not in it
 abbrev pub parted : List ℕ → Held → Held
 parted name h = with_channels h (let_go (fold_name name) h.channels (found name h))
 
@@ -126,21 +126,22 @@ abbrev pub reader_at : Option ℕ → List Bool
 reader_at None = []
 reader_at (Some i) = reader i
 
--- the reader that an attached origin is, if it has a name
+-- the reader of an attached origin, if it has a name
 abbrev pub reader_of : Origin → Names → List Bool
 reader_of o names = reader_at (index_of o names.holders)
 
--- the target of a key played to a client: emptied where playing empties it, and seen by its name, if it has one
+-- the target of a key played to a client: emptied where playing empties it, and seen by the client's name, if it has
+-- one
 abbrev pub played_out : Settings → Origin → List ℕ → Held → Held
 played_out s o key h =
     holding h.nick h.clients h.names (at_channel key (over (after_play (clears_now s.clears_channels h.names) (reader_of o h.names))) h.channels) (at_query key (after_play (clears_now s.clears_queries h.names) (reader_of o h.names)) h.queries)
 
--- the target of a key emptied, where playing empties it whoever was named
+-- the target of a key emptied, where playing empties it, whether or not names were given
 abbrev pub played_emptied : Settings → List ℕ → Held → Held
 played_emptied s key h =
     holding h.nick h.clients h.names (if s.clears_channels then at_channel key (over cleared) h.channels else h.channels) (if s.clears_queries then at_query key cleared h.queries else h.queries)
 
--- the target of a key seen by these
+-- the target of a key, seen by these
 abbrev pub played_seen : List Bool → List ℕ → Held → Held
 played_seen here key h =
     holding h.nick h.clients h.names (at_channel key (over (seen_all here)) h.channels) (at_query key (seen_all here) h.queries)
@@ -149,12 +150,12 @@ played_seen here key h =
 abbrev pub cleared_of : List ℕ → Held → Held
 cleared_of key h = holding h.nick h.clients h.names (at_channel key (over cleared) h.channels) (at_query key cleared h.queries)
 
--- all channels, all queries, or all of both emptied
+-- all channels, all queries, or both emptied
 abbrev pub kinds_cleared : Bool → Bool → Held → Held
 kinds_cleared channels queries h =
     holding h.nick h.clients h.names (if channels then map (over cleared) h.channels else h.channels) (if queries then map cleared h.queries else h.queries)
 
--- another size for the target of a key, unless it is past what there may be
+-- another size for the target of a key, unless it is past the limit
 abbrev pub sized_unless_past : ℕ → List ℕ → Held → Held
 sized_unless_past n key h =
     holding h.nick h.clients h.names (if not (is_past n) then at_channel key (over (resized n)) h.channels else h.channels) (if not (is_past n) then at_query key (resized n) h.queries else h.queries)
@@ -184,23 +185,23 @@ abbrev pub left : Origin → Held → Held
 left o h =
     holding h.nick (filter (λ x. not (same_origin o x)) h.clients) (names_of h.names.ids (filter (λ x. not (same_origin o x.0)) h.names.holders)) h.channels h.queries
 
--- who is left where one client more attaches: all, or nobody where one alone may be attached
+-- who stays when one more client attaches: all, or nobody where only one may be attached
 abbrev pub with_room : Bool → Held → Held
 with_room many h =
     holding h.nick (if many then h.clients else []) (if many then h.names else names_of h.names.ids []) h.channels h.queries
 
--- what a client that attaches was played is emptied
+-- what was played to a client that attaches is emptied
 abbrev pub shown_emptied : Settings → Held → Held
 shown_emptied s h =
     holding h.nick h.clients h.names (if s.clears_channels then open_cleared h.channels else h.channels) (if s.clears_queries then map cleared h.queries else h.queries)
 
--- what a client that attaches by a name was played has been seen by the name
+-- what was played to a client that attaches by a name has been seen by that name
 abbrev pub shown_noted : Origin → List ℕ → Held → Held
 shown_noted o id h =
     let here = reader (index_in id h.names.ids) in
     holding h.nick h.clients (with_holder o id h.names) (open_seen here h.channels) (map (seen_all here) h.queries)
 
--- a line kept in the channel of a key, and seen by those who are here, unless it is detached
+-- a line kept in the channel of a key, and seen by the readers who are here, unless it is detached
 abbrev pub kept_in : List ℕ → ℕ × Parts → Held → Held
 kept_in key line h =
     holding h.nick h.clients h.names (at_channel key (over (pushed line (here_in h.names (is_detached (channel_of_key key h.channels))))) h.channels) h.queries
@@ -209,11 +210,11 @@ kept_in key line h =
 abbrev pub IsKeptAt : Option ℕ → ℕ × Parts → Held → Held → Type 0
 IsKeptAt place line h new = (key : List ℕ) → StandsAt key h.channels place → new ≡ kept_in key line h
 
--- whether an Attach empties now what it plays: no client had a name, nor does this one
+-- whether an Attach empties now what it plays: no client had a name, and this one gives none
 abbrev pub clears_attaching : Bool → Names → Option (List ℕ) → Bool
 clears_attaching clears names id = clears_now clears names && not (is_some id)
 
--- the reader that a client is which attaches, if it gives a name
+-- the reader of a client that attaches, if it gives a name
 abbrev pub reader_named : Option (List ℕ) → Names → List Bool
 reader_named None names = []
 reader_named (Some id) names = reader (index_in id names.ids)
@@ -279,7 +280,7 @@ queries_after s floor h (NodeGone node boot) = h.queries
 queries_after s floor h Up = h.queries
 queries_after s floor h Down = h.queries
 
--- all that is held next, where this is the floor of the command's client's node
+-- all that is held next, where this is the floor of the node of the command's client
 abbrev pub after : Settings → ℕ → Held → Command → Held
 after s floor h x =
     holding (nick_after h.nick x) (attached_after s.many_clients (taken_now floor h x) h.clients x) (names_after s.many_clients (taken_now floor h x) h.names x) (channels_after s floor h x) (queries_after s floor h x)

@@ -60,7 +60,7 @@ pub fn act(
     }
 }
 
-/// A client attaches.
+/// Attaches a client.
 fn attach(
     alloc: Global,
     setup: &Setup,
@@ -74,13 +74,13 @@ fn attach(
     ensures held { OnOk result (held_of buffers.new ≡ after setup.now floor
         (held_of buffers.old) (Client origin 0 (Action.Attach (option_copied id.entry)))) }
 {
-    // answered first: what is shown is what stands before the client is among those that are attached
+    // answered first: what is shown depends on what is held before the client is attached
     let effects = answer_attach(alloc, setup, floor, buffers, origin, id)?;
     let_in(setup, floor, buffers, origin, id)?;
     Ok(effects)
 }
 
-/// A client attaches.
+/// Answers a client that attaches.
 fn answer_attach(
     alloc: Global,
     setup: &Setup,
@@ -109,7 +109,7 @@ fn answer_attach(
     Ok(effects)
 }
 
-/// Where one client alone may be attached, the others are closed first.
+/// Closes the others first, if only one client may be attached.
 fn closed_first(alloc: Global, setup: &Setup, clients: &Clients) -> Result<Vec<Effect>, AllocError>
     ensures { IfOk result (λ v. v.items ≡
         (if setup.now.many_clients then [] else map (λ o. Effect.Close o) clients.now)) }
@@ -121,7 +121,7 @@ fn closed_first(alloc: Global, setup: &Setup, clients: &Clients) -> Result<Vec<E
     Ok(effects)
 }
 
-/// Where the name stands that a client gives, if it gives one.
+/// The place of the name that a client gives, if it gives one.
 fn reader_for(names: &Names, id: Option<&Name>) -> Option<usize>
     ensures { result ≡ standing (option_copied id.entry) names.now.ids }
 {
@@ -139,7 +139,7 @@ fn may_attach(floor: u64, buffers: &Buffers, origin: Origin, id: Option<&Name>) 
     buffers.clients.may_attach(floor, origin) && buffers.names.has_room(id)
 }
 
-/// A client that is not attached is closed.
+/// Closes a client that is not attached.
 fn close_out(alloc: Global, clients: &Clients, origin: Origin) -> Result<Vec<Effect>, AllocError>
     ensures effects { IfOk result (λ v. v.items ≡ closed_out origin clients.now) }
     ensures memory { IsTrue (is_among origin clients.now) → IsOk result }
@@ -151,7 +151,7 @@ fn close_out(alloc: Global, clients: &Clients, origin: Origin) -> Result<Vec<Eff
     Ok(effects)
 }
 
-/// A client is among those that are attached, where its Attach is taken.
+/// Adds a client to those that are attached, if its Attach is taken.
 fn let_in(
     setup: &Setup,
     floor: u64,
@@ -166,7 +166,7 @@ fn let_in(
         return Ok(());
     }
     make_room(setup, buffers);
-    // what was played is emptied last: a client that finds no room is shown nothing
+    // what was played is emptied last: if no memory is left for the client, it is shown nothing
     buffers.clients.attach(origin)?;
     match id {
         Some(id) => note_shown(buffers, origin, id)?,
@@ -176,7 +176,7 @@ fn let_in(
     Ok(())
 }
 
-/// Where one client alone may be attached, the others are attached no more.
+/// Removes the others, if only one client may be attached.
 fn make_room(setup: &Setup, buffers: &mut Buffers)
     ensures { held_of buffers.new ≡
         with_room setup.now.many_clients (held_of buffers.old) }
@@ -187,7 +187,7 @@ fn make_room(setup: &Setup, buffers: &mut Buffers)
     }
 }
 
-/// What a client that attaches was played is emptied.
+/// Empties what was played to a client that attaches.
 fn empty_shown(setup: &Setup, buffers: &mut Buffers)
     ensures { held_of buffers.new ≡ shown_emptied setup.now (held_of buffers.old) }
 {
@@ -199,7 +199,7 @@ fn empty_shown(setup: &Setup, buffers: &mut Buffers)
     }
 }
 
-/// What a client that attaches by a name was played has been seen by the name.
+/// Notes that a name has seen what was played to a client that attaches by it.
 fn note_shown(buffers: &mut Buffers, origin: Origin, id: &Name) -> Result<(), AllocError>
     requires { may_name buffers.old.names.ids (Some id.now) ≡ true }
     ensures { OnOk result (held_of buffers.new ≡ shown_noted origin id.now (held_of buffers.old)) }
@@ -211,7 +211,7 @@ fn note_shown(buffers: &mut Buffers, origin: Origin, id: &Name) -> Result<(), Al
     Ok(())
 }
 
-/// A client leaves; one that is not attached is closed.
+/// Removes a client that leaves; one that is not attached is closed.
 fn leave(alloc: Global, buffers: &mut Buffers, origin: Origin) -> Result<Vec<Effect>, AllocError>
     ensures effects { IfOk result (λ v. v.items ≡ closed_out origin buffers.old.clients) }
     ensures held { OnOk result (held_of buffers.new ≡ left origin (held_of buffers.old)) }
@@ -223,7 +223,7 @@ fn leave(alloc: Global, buffers: &mut Buffers, origin: Origin) -> Result<Vec<Eff
     Ok(effects)
 }
 
-/// A line is sent as it is.
+/// Sends a line as it is.
 fn pass(alloc: Global, origin: Origin, line: &WireLine) -> Result<Vec<Effect>, AllocError>
     ensures { IfOk result (λ v. v.items ≡ Effect.Send origin line.now ∷ []) }
 {

@@ -12,8 +12,8 @@ use buffer_targets::{Channels, Queries, Target};
 use irc_line::Name;
 use std::alloc::{AllocError, Global};
 
-/// The own nick, the clients that are attached, in order of attaching, and by which names, and what is kept of each channel and
-/// query.
+/// The own nick, the clients that are attached, in the order in which they attached, and by which names, and what is
+/// kept of each channel and query.
 #[derive(Drop)]
 pub struct Buffers {
     pub nick: Name,
@@ -48,14 +48,14 @@ impl Buffers {
         }
     }
 
-    /// Whether a channel stands at a place.
+    /// Whether there is a channel at a place.
     pub fn is_known(&self, place: Option<usize>) -> bool
         ensures { IsKnownAt self.now.channels place result }
     {
         self.channels.at(place).is_some()
     }
 
-    /// Whether the channel that stands at a place is detached.
+    /// Whether the channel at a place is detached.
     pub fn is_detached(&self, place: Option<usize>) -> bool
         ensures { IsDetachedAt self.now.channels place result }
     {

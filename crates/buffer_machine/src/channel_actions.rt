@@ -17,7 +17,7 @@ use machine_laws::single;
 use std::alloc::{AllocError, Global};
 use wire_bytes::Origin;
 
-/// A client has a channel joined; a detached one is attached again.
+/// Joins a channel for a client; a detached one is attached again.
 pub fn join(
     alloc: Global,
     setup: &Setup,
@@ -40,7 +40,7 @@ pub fn join(
     Ok(effects)
 }
 
-/// A client leaves a channel; one that is not joined is let go.
+/// Leaves a channel for a client; one that is not joined is dropped.
 pub fn part(
     alloc: Global,
     buffers: &mut Buffers,
@@ -55,7 +55,7 @@ pub fn part(
     Ok(effects)
 }
 
-/// A client detaches a channel: all are shown that it is left.
+/// Detaches a channel for a client: all are shown that it is left.
 pub fn detach(
     alloc: Global,
     buffers: &mut Buffers,
@@ -70,7 +70,7 @@ pub fn detach(
     Ok(effects)
 }
 
-/// A client attaches a channel again.
+/// Attaches a channel again for a client.
 pub fn reattach(
     alloc: Global,
     setup: &Setup,
@@ -93,7 +93,7 @@ pub fn reattach(
     Ok(effects)
 }
 
-/// A client has a channel joined.
+/// The answer to a Join.
 fn answer_join(
     alloc: Global,
     setup: &Setup,
@@ -117,7 +117,7 @@ fn answer_join(
     }
 }
 
-/// A client leaves a channel.
+/// The answer to a Part.
 fn answer_part(
     alloc: Global,
     buffers: &Buffers,
@@ -138,7 +138,7 @@ fn answer_part(
     }
 }
 
-/// A client detaches a channel: all are shown that it is left.
+/// The answer to a Detach: all are shown that the channel is left.
 fn answer_detach(
     alloc: Global,
     buffers: &Buffers,
@@ -159,7 +159,7 @@ fn answer_detach(
     }
 }
 
-/// A client attaches a channel again.
+/// The answer to a Reattach.
 fn answer_reattach(
     alloc: Global,
     setup: &Setup,
@@ -182,7 +182,7 @@ fn answer_reattach(
     }
 }
 
-/// All are shown that a channel is left.
+/// Shows all clients that a channel is left.
 #[tactic(auto, using(crate::proofs::Shows::show_one_is))]
 fn show_left(alloc: Global, buffers: &Buffers, channel: &Channel) -> Result<Vec<Effect>, AllocError>
     ensures { IfOk result (λ v. v.items ≡
@@ -198,7 +198,7 @@ fn show_left(alloc: Global, buffers: &Buffers, channel: &Channel) -> Result<Vec<
     show_lines_to_all(alloc, buffers.clients.as_slice(), lines)
 }
 
-/// All are shown a channel that is attached again, and it is asked who is in it, or joined.
+/// Shows all clients a channel that is attached again, and sends NAMES for it, or JOIN.
 fn show_again(
     alloc: Global,
     setup: &Setup,
@@ -215,7 +215,7 @@ fn show_again(
     Ok(effects)
 }
 
-/// What is sent of a channel that is attached again: who is in it, or that it is joined.
+/// What is sent for a channel that is attached again: NAMES, or JOIN if it is not joined.
 fn word_again(channel: &Channel) -> ChannelWord
     ensures { word_bytes result ≡ (if channel.now.joined then codes "NAMES" else codes "JOIN") }
 {
@@ -226,7 +226,7 @@ fn word_again(channel: &Channel) -> ChannelWord
     }
 }
 
-/// A command about a channel is sent, and nothing else.
+/// Sends a command about a channel, and nothing else.
 fn send(
     alloc: Global,
     origin: Origin,

@@ -1,4 +1,4 @@
-//! What becomes of a channel that is attached again, or left where it is not joined.
+//! What happens to a channel that is attached again, or left where it is not joined.
 ghost use Rattle.std.specs.Prelude.{◌≡◌, ◌&&◌, is_some, not};
 ghost use Rattle.irc_line.specs.Names.{fold_name};
 ghost use Rattle.buffer_machine.specs.Steps.{attached_again, is_detached, is_joined, let_go};
@@ -16,7 +16,7 @@ pub fn attach_again(setup: &Setup, names: &Names, channels: &mut Channels, name:
     if is_detached_at(channels, name) {
         channels.set_detached_at(name, false);
         if !names.is_empty() {
-            // all who are attached are played it
+            // it is played to all who are attached
             channels.see_at(name, names.here());
         } else if setup.clears_channels() {
             channels.clear_at(name);
@@ -24,7 +24,7 @@ pub fn attach_again(setup: &Setup, names: &Names, channels: &mut Channels, name:
     }
 }
 
-/// Lets the channel of a name go, where it is not joined.
+/// Removes the channel of a name, if it is not joined.
 pub fn let_channel_go(channels: &mut Channels, name: &[u8])
     ensures { channels.new ≡ let_go (fold_name name.now) channels.old
         (channel_of_key (fold_name name.now) channels.old) }

@@ -12,10 +12,10 @@ use std::alloc::{AllocError, Global};
 use std::marker::Model;
 use wire_bytes::{Number, Origin};
 
-/// An attached client that gave a name, and where that stands among the names.
+/// An attached client that gave a name, and the place of that name among the names.
 pub type Holder = (Origin, usize);
 
-/// The names that clients gave as they attached, in the order in which they first came, and who has one now.
+/// The names that clients gave when they attached, in the order in which they first came, and who has one now.
 #[derive(Drop)]
 pub struct Names {
     alloc: Global,
@@ -82,7 +82,7 @@ impl Names {
         }
     }
 
-    /// Where a name stands; behind all others, where it is new. Names are compared byte by byte.
+    /// The place of a name; after all others, if it is new. Names are compared byte by byte.
     pub fn place_of(&self, id: &Name) -> usize
         ensures place { result ≡ index_in id.now self.now.ids }
         ensures within { may_name self.now.ids (Some id.now) ≡ true → result < readers }
@@ -90,7 +90,7 @@ impl Names {
         place_in(self.ids.as_slice(), id)
     }
 
-    /// The attached clients that have a name, in order of attaching.
+    /// The attached clients that have a name, in the order in which they attached.
     pub fn holders(&self) -> &[Holder]
         ensures { result.now ≡ self.now.holders }
     {
@@ -105,7 +105,7 @@ impl Names {
         name_in(self.holders.as_slice(), origin)
     }
 
-    /// For each name whether a client that has it is attached.
+    /// For each name, whether a client that has it is attached.
     pub fn here(&self) -> &[bool]
         ensures { result.now ≡ here_of self.now }
     {
@@ -120,7 +120,7 @@ impl Names {
         self.ids.len()
     }
 
-    /// A client attached by a name, behind all others.
+    /// Adds a client attached by a name, after all others.
     pub fn attach(&mut self, origin: Origin, id: &Name) -> Result<(), AllocError>
         requires { may_name self.old.ids (Some id.now) ≡ true }
         ensures { OnOk result (self.new ≡ with_holder origin id.now self.old) }
@@ -131,7 +131,7 @@ impl Names {
         Ok(())
     }
 
-    /// No client is attached.
+    /// Removes all clients.
     pub fn clear(&mut self)
         ensures { self.new ≡ names_of self.old.ids [] }
     {
@@ -142,7 +142,7 @@ impl Names {
         self.here = NOBODY;
     }
 
-    /// A client is attached no more.
+    /// Removes a client that is no longer attached.
     pub fn remove(&mut self, origin: Origin)
         ensures { self.new ≡ names_of self.old.ids
             (filter (λ h. not (same_origin origin h.0)) self.old.holders) }
@@ -154,7 +154,7 @@ impl Names {
         self.here = flags_of(self.holders.as_slice());
     }
 
-    /// The clients of a node's runs below this one are attached no more.
+    /// Removes the clients of a node's runs below this one.
     pub fn remove_below(&mut self, node: u8, floor: Number)
         ensures { self.new ≡ names_of self.old.ids
             (filter (λ h. not (h.0.0 == node && nat_lt h.0.1 floor)) self.old.holders) }
@@ -181,7 +181,7 @@ fn drop_run(holders: &mut Vec<Holder>, node: u8, floor: Number)
     holders.retain(|holder| !is_gone(holder.0, node, floor));
 }
 
-/// Where a name stands among these, where it comes to stand if it is new.
+/// The place of a name among these, to which it is added if it is new.
 fn add_name(alloc: Global, ids: &mut Vec<Name>, id: &Name) -> Result<usize, AllocError>
     requires few { length ids.old.items ≤ readers }
     requires room { may_name ids.old.items (Some id.now) ≡ true }
@@ -199,7 +199,7 @@ fn add_name(alloc: Global, ids: &mut Vec<Name>, id: &Name) -> Result<usize, Allo
     Ok(name)
 }
 
-/// Where a name stands among these; behind all, where it is none of them.
+/// The place of a name among these; after all, if it is none of them.
 fn place_in(ids: &[Name], id: &Name) -> usize
     ensures { result ≡ index_in id.now ids.now }
 {
@@ -213,7 +213,7 @@ fn place_in(ids: &[Name], id: &Name) -> usize
     place
 }
 
-/// Where the name of a client stands, if it has one.
+/// The place of a client's name, if it has one.
 fn name_in(holders: &[Holder], origin: Origin) -> Option<usize>
     requires { stand_below readers holders.now ≡ true }
     ensures name { result ≡ index_of origin holders.now }
@@ -228,7 +228,7 @@ fn name_in(holders: &[Holder], origin: Origin) -> Option<usize>
     None
 }
 
-/// Who is here, where these clients are attached.
+/// The readers who are here, where these clients are attached.
 fn flags_of(holders: &[Holder]) -> [bool; READERS]
     requires { stand_below readers holders.now ≡ true }
     ensures { result ≡ flags holders.now }
@@ -241,7 +241,7 @@ fn flags_of(holders: &[Holder]) -> [bool; READERS]
     here
 }
 
-/// A reader alone, of all that there may be.
+/// One reader alone, out of all possible ones.
 pub fn reader_alone(place: usize) -> [bool; READERS]
     requires { place < readers }
     ensures { result ≡ reader place }

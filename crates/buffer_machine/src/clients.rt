@@ -11,7 +11,7 @@ use std::collections::BTreeSet;
 use std::marker::Model;
 use wire_bytes::{Number, Origin};
 
-/// The clients that are attached, in order of attaching, and again as a set in which one is looked up.
+/// The clients that are attached, in the order in which they attached, and also as a set for lookups.
 #[derive(Drop)]
 pub struct Clients {
     order: Vec<Origin>,
@@ -42,7 +42,7 @@ impl Clients {
         }
     }
 
-    /// In order of attaching.
+    /// In the order in which they attached.
     pub fn as_slice(&self) -> &[Origin]
         ensures { result.now ≡ self.now }
     {
@@ -55,7 +55,7 @@ impl Clients {
         self.order.is_empty()
     }
 
-    /// Found in a logarithm of the clients.
+    /// Takes time logarithmic in the number of clients.
     pub fn is_attached(&self, origin: Origin) -> bool
         ensures { result ≡ is_among origin self.now }
     {
@@ -69,12 +69,12 @@ impl Clients {
         !self.is_attached(origin) && floor <= origin.boot()
     }
 
-    /// One more, behind all others. A refused call changes nothing.
+    /// Adds a client after all others. A refused call changes nothing.
     pub fn attach(&mut self, origin: Origin) -> Result<(), AllocError>
         ensures ok { OnOk result (self.new ≡ self.old ++ origin ∷ []) }
         ensures err { OnErr result (self.new ≡ self.old) }
     {
-        // the list first: its end is taken back without fail where the set finds no room
+        // the list first: its end can always be removed again if there is no room in the set
         self.order.push(origin)?;
         match self.set.insert(origin) {
             Ok(_) => Ok(()),

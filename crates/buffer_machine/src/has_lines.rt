@@ -1,4 +1,4 @@
-//! The buffers are told of the lines from upstream, and send lines there.
+//! The buffers get the lines from upstream, and send lines there.
 ghost use Rattle.std.specs.Prelude.{Some, None};
 
 use crate::machine::BufferMachine;

@@ -33,13 +33,13 @@ pub fn hear(
         after setup.now 0 (held_of buffers.old) (Upstream at line.now)) }
 {
     let place = buffers.channels.place_of(channel_of(line));
-    // shown first: who is shown a line goes by what stands before it
+    // shown first: who is shown a line depends on what is held before it
     let effects = show_heard(alloc, buffers, place, line)?;
     take_line(alloc, setup, buffers, place, at, line)?;
     Ok(effects)
 }
 
-/// A line from upstream is shown to all, but the server's welcome, and a line of a channel that is detached.
+/// Shows a line from upstream to all, except the server's welcome and a line of a detached channel.
 #[tactic(auto, using(crate::proofs::Shows::show_one_is, crate::proofs::Shows::show_none_is))]
 fn show_heard(
     alloc: Global,
@@ -69,7 +69,8 @@ fn take_line(
     ensures { OnOk result (held_of buffers.new ≡
         after_line setup.now (held_of buffers.old) at line.now) }
 {
-    // the query first: its line is for no channel that was known before; the nick last: the line is for the old one
+    // the query first, since the line is for no channel that was known before; the nick last, since the line is for the
+    // old one
     store_in_query(alloc, setup, buffers, place, at, line)?;
     take_for_channel(alloc, setup, buffers, place, at, line)?;
     take_nick(alloc, &mut buffers.nick, line)?;

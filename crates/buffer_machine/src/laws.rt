@@ -1,4 +1,4 @@
-//! What a reader can check the definitions of the buffers by, as contracts of functions that do nothing.
+//! What a reader can check the definitions of the buffers against, as contracts of functions that do nothing.
 ghost use Rattle.std.specs.Prelude.{◌≡◌, ◌≤◌, ◌&&◌, ◌∷◌, [], ℕ, List, length, true, false};
 ghost use Rattle.irc_line.specs.Names.{fold_name, is_channel};
 ghost use Rattle.irc_line.specs.Keys.{is_in};
@@ -24,8 +24,8 @@ pub fn no_target_keeps_more_than_its_size()
         → length (kept s history t) ≤ size s t history }
 {}
 
-/// A line of a detached channel is shown to nobody, whether it comes from upstream or a client says it; nor is the channel
-/// among those that a client who attaches is shown.
+/// A line of a detached channel is shown to nobody, whether it comes from upstream or a client says it; nor is the
+/// channel among those that a client is shown when it attaches.
 #[tactic(auto, using(crate::proofs::Readings::line_unshown, crate::proofs::Readings::said_unshown, crate::proofs::Readings::not_open))]
 pub fn a_detached_channel_is_not_shown()
     ensures taken { (s : Settings) (earlier : List Command) (at : ℕ) (line : Parts)
@@ -38,7 +38,7 @@ pub fn a_detached_channel_is_not_shown()
         → detached s earlier c ≡ true → is_in c (open_channels s earlier) ≡ false }
 {}
 
-/// A target that playing empties keeps nothing after a command that plays it, while no client gave a name.
+/// A target that playing empties keeps nothing after a command that plays it, as long as no client gave a name.
 #[tactic(auto, using(crate::proofs::Readings::played_out))]
 pub fn playing_leaves_nothing()
     ensures { (s : Settings) (earlier : List Command) (x : Command) (t : List ℕ) → clears s t ≡ true
@@ -47,8 +47,8 @@ pub fn playing_leaves_nothing()
         → kept s (x ∷ earlier) t ≡ [] }
 {}
 
-/// A request but Attach of one who is not attached closes it and changes nothing: not who is attached, nor the own nick,
-/// nor the channels and queries with what they keep, nor what is played of any target.
+/// A request other than Attach by a client that is not attached closes it and changes nothing: neither who is attached,
+/// nor the own nick, nor the channels and queries with what they keep, nor what is played of any target.
 #[tactic(auto, using(crate::proofs::Readings::held_stays, crate::proofs::Readings::attached_still, crate::proofs::Readings::nick_still, crate::proofs::Readings::playback_still, crate::proofs::Readings::closed_alone))]
 pub fn who_is_not_attached_changes_nothing()
     ensures held { (s : Settings) → IsSound s → (earlier : List Command) (o : Origin) (at : ℕ)

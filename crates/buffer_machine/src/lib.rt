@@ -1,7 +1,6 @@
-//! The buffers of a bouncer: who is attached, what is kept for clients that are away, and what each command
-//! brings about.
-//! Stands under bouncer_tower, driver, headline and fold_app, among others.
-//! Promises that for every setup and list of commands the effects, the playback and the nick are the definitions'.
+//! The buffers of a bouncer: who is attached, what is kept for clients that are away, and what each command brings
+//! about. Used by bouncer_tower, driver, headline and fold_app, among others. Promises that for every setup and list of
+//! commands the effects, the playback and the nick are the definitions'.
 #![tactic(auto)]
 
 mod actions;

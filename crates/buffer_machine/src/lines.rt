@@ -1,4 +1,4 @@
-//! What the buffers look at in a line.
+//! The parts of a line that the buffers look at.
 ghost use Rattle.std.specs.Prelude.{◌≡◌, ◌==◌, not};
 ghost use Rattle.irc_line.specs.Lines.{parameter};
 ghost use Rattle.std.specs.List.{take_while};
@@ -20,7 +20,7 @@ pub fn is_message(line: &Line) -> bool
     has_command(line, b"PRIVMSG") || has_command(line, b"NOTICE")
 }
 
-/// Whether a line may be stored: a message with a target and a text, and of the client-to-client ones only an ACTION.
+/// Whether a line may be stored: a message with a target and a text; of CTCP messages only an ACTION.
 pub fn may_store(line: &Line) -> bool
     ensures { result ≡ is_storable line.now }
 {
@@ -71,7 +71,7 @@ pub fn is_own(line: &Line, word: &[u8], nick: &[u8]) -> bool
     has_command(line, word) && is_by(line, nick) && is_channel_name(line.parameter(0))
 }
 
-/// Whether a line puts this nick out of a channel (RFC 2812, 3.2.8).
+/// Whether a line kicks this nick from a channel (RFC 2812, 3.2.8).
 pub fn is_own_kick(line: &Line, nick: &[u8]) -> bool
     ensures { result ≡ is_own_kick nick.now line.now }
 {
@@ -88,7 +88,7 @@ pub fn is_new_nick(line: &Line, nick: &[u8]) -> bool
         && is_a_name(line.parameter(0))
 }
 
-/// Whether a line is a message to this nick from one who may have a query.
+/// Whether a line is a message to this nick from a sender who may have a query.
 pub fn is_query_line(line: &Line, nick: &[u8]) -> bool
     ensures { result ≡ is_query_line nick.now line.now }
 {
@@ -104,7 +104,7 @@ fn is_query_name(name: &[u8]) -> bool
     is_a_name(name) && !is_channel_name(name)
 }
 
-/// The channel that a line names, whatever stands there; no bytes where its command names none.
+/// The channel that a line names, whatever that name is; no bytes where its command names none.
 pub fn channel_of(line: &Line) -> &[u8]
     ensures { result.now ≡ channel_of line.now }
 {

@@ -36,7 +36,7 @@ pub struct BufferMachine {
 impl BufferMachine {
     ghost use Rattle.buffer_machine.specs.Machine.{Stands};
 
-    /// What is kept of a target, between its frame lines; nothing of one that is not known. Nothing is emptied.
+    /// What is kept of a target, between its frame lines; nothing for an unknown one. It empties nothing.
     pub fn playback(&self, target: &Name) -> Result<Vec<Shown>, AllocError>
         ensures { (s : Settings) (history : History Command) → Stands self.now s history
             → IfOk result (λ v. v.items ≡
@@ -61,7 +61,7 @@ impl BufferMachine {
         self.buffers.clients.is_attached(client)
     }
 
-    /// The clients that are attached, in order of attaching.
+    /// The clients that are attached, in the order in which they attached.
     pub fn clients(&self) -> &[Origin]
         ensures { (s : Settings) (history : History Command) → Stands self.now s history
             → result.now ≡ (held s (commands history)).clients }
@@ -69,7 +69,7 @@ impl BufferMachine {
         self.buffers.clients.as_slice()
     }
 
-    /// The names that clients gave as they attached, in the order in which they first came.
+    /// The names that clients gave when they attached, in the order in which they first came.
     pub fn ids(&self) -> &[Name]
         ensures { (s : Settings) (history : History Command) → Stands self.now s history
             → result.now ≡ (held s (commands history)).names.ids }
@@ -77,7 +77,7 @@ impl BufferMachine {
         self.buffers.names.ids()
     }
 
-    /// The attached clients that have a name, in order of attaching, each with where its name stands.
+    /// The attached clients that have a name, in the order in which they attached, each with the place of its name.
     pub fn holders(&self) -> &[(Origin, usize)]
         ensures { (s : Settings) (history : History Command) → Stands self.now s history
             → result.now ≡ (held s (commands history)).names.holders }
@@ -85,7 +85,7 @@ impl BufferMachine {
         self.buffers.names.holders()
     }
 
-    /// The channels, in order of their keys.
+    /// The channels, in the order of their keys.
     pub fn channels(&self) -> &[Channel]
         ensures { (s : Settings) (history : History Command) → Stands self.now s history
             → result.now ≡ (held s (commands history)).channels }
@@ -93,7 +93,7 @@ impl BufferMachine {
         self.buffers.channels.as_slice()
     }
 
-    /// The queries, in order of making.
+    /// The queries, in the order in which they were made.
     pub fn queries(&self) -> &[Target]
         ensures { (s : Settings) (history : History Command) → Stands self.now s history
             → result.now ≡ (held s (commands history)).queries }
@@ -153,7 +153,7 @@ impl Machine for BufferMachine {
         })
     }
 
-    /// The end of the upstream, a node that is gone, and Leave of one who is attached take no memory.
+    /// The end of the upstream, a node that is gone, and Leave of an attached client allocate nothing.
     fn apply(&mut self, place: u64, command: &Command) -> Result<Vec<Effect>, ApplyFault>
         ensures stands { (s : Settings) (earlier : History Command) → Stands self.old s earlier
             → OnOk result (Stands self.new s ((place, command.now) ∷ earlier)) }
@@ -188,7 +188,7 @@ impl Machine for BufferMachine {
     ghost stands_whole = { λ m s history h. h.whole };
 }
 
-/// What is so of every setup.
+/// What holds of every setup.
 fn keeps_its_limits(setup: &Setup)
     ensures { IsSound setup.now }
 {

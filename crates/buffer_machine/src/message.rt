@@ -1,4 +1,4 @@
-//! The lines that the buffers tell and send.
+//! The lines that the buffers write and send.
 ghost use Rattle.std.specs.Prelude.{◌≡◌, ◌∷◌, [], codes, IfOk, IsTrue};
 ghost use Rattle.irc_line.specs.Lines.{is_upper_command, is_word, spelling, line_of};
 ghost use Rattle.buffer_machine.specs.Messages.{bare, own_line, own_prefix, own_said, verb_word, word_bytes};
@@ -19,10 +19,10 @@ pub enum ChannelWord {
 /// The answer to what was done.
 pub const DONE: &[u8] = b"Done.";
 
-/// The answer to a size past what there may be.
+/// The answer to a size past the limit.
 pub const SIZE_IS_PAST: &[u8] = b"Size is past 500.";
 
-/// The answer where a target is not known.
+/// The answer where a target is unknown.
 pub const NO_SUCH_TARGET: &[u8] = b"No such target.";
 
 /// What follows the nick in the prefix of what clients say.

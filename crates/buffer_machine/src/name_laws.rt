@@ -1,4 +1,4 @@
-//! What a reader can check the definitions of what names have seen by, as contracts of functions that do nothing.
+//! What a reader can check the definitions of what names have seen against, as contracts of functions that do nothing.
 ghost use Rattle.std.specs.Prelude.{◌≡◌, ◌≤◌, ◌&&◌, ◌∷◌, [], ℕ, List, Some, drop, length, true, false};
 ghost use Rattle.irc_line.specs.Names.{is_channel};
 ghost use Rattle.wire_bytes.specs.declared.origin.Origin.{Origin};
@@ -13,8 +13,8 @@ ghost use Rattle.buffer_machine.specs.Effects.{closings, effects, shown};
 ghost use Rattle.buffer_machine.specs.Marks.{mark, seen, unseen};
 ghost use Rattle.buffer_targets.specs.Targets.{readers};
 
-/// Where no client ever gives a name, no name is known and none has seen anything, and who is attached, what is stored, what is
-/// emptied and what each command brings about goes as it did before clients could give one.
+/// If no client ever gives a name, no name is known and none has seen anything; who is attached, what is stored, what
+/// is emptied and what each command brings about are as they were before clients could give one.
 #[tactic(auto, using(crate::proofs::Unnamed::no_ids, crate::proofs::Unnamed::no_mark, crate::proofs::Unnamed::attached_was, crate::proofs::Unnamed::stored_was, crate::proofs::Unnamed::stored_query_was, crate::proofs::Unnamed::emptied_was, crate::proofs::UnnamedEffects::closings_was, crate::proofs::UnnamedEffects::shown_was, crate::proofs::UnnamedEffects::effects_was))]
 pub fn without_names_all_is_as_before()
     ensures ids { (s : Settings) (history : List Command) → is_unnamed history ≡ true
@@ -47,8 +47,8 @@ pub fn no_more_than_64_names_are_known()
         → is_id_in id (ids s earlier) ≡ true → is_id_in id (ids s (x ∷ earlier)) ≡ true }
 {}
 
-/// A name that a client has that is attached has seen all of a target after the next command, unless the target is a channel that
-/// is detached; and a name by which a client attaches has seen all that there is then.
+/// The name of an attached client has seen all of a target after the next command, unless the target is a detached
+/// channel; and a name by which a client attaches has seen all that there is at that time.
 #[tactic(auto, using(crate::proofs::Placing::was_there, crate::proofs::Placing::comes_now))]
 pub fn who_was_there_is_played_nothing()
     ensures was { (s : Settings) (earlier : List Command) (x : Command) (id t : List ℕ)
@@ -60,7 +60,7 @@ pub fn who_was_there_is_played_nothing()
         → unseen s (Client o at (Attach (Some id)) ∷ earlier) id t ≡ [] }
 {}
 
-/// What a name has not seen is what is kept behind what it has seen.
+/// What a name has not seen are the kept lines after those that it has seen.
 #[tactic(auto, using(crate::proofs::Placing::unseen_behind))]
 pub fn what_is_seen_begins_what_is_kept()
     ensures { (s : Settings) (history : List Command) (id t : List ℕ)

@@ -18,7 +18,7 @@ use machine_laws::single;
 use std::alloc::{AllocError, Global};
 use wire_bytes::{Moment, Origin};
 
-/// A message is sent, and where it is for a channel, shown to the others and stored.
+/// Sends a message; if it is for a channel, shows it to the others and stores it.
 pub fn say(
     alloc: Global,
     setup: &Setup,
@@ -44,7 +44,7 @@ pub fn say(
     Ok(effects)
 }
 
-/// A line is shown to the others, unless its channel is detached, and stored.
+/// Shows a line to the others, unless its channel is detached, and stores it.
 fn share(
     alloc: Global,
     setup: &Setup,
@@ -63,7 +63,7 @@ fn share(
     Ok(effects)
 }
 
-/// The others are shown a line, unless its channel is detached.
+/// Shows a line to the others, unless its channel is detached.
 #[tactic(auto, using(crate::proofs::Shows::show_one_is))]
 fn show_said(
     alloc: Global,

@@ -26,7 +26,7 @@ pub fn tell(
     single(alloc, Effect::Show(origin, status))
 }
 
-/// Who is played what: a client, all that is kept, or by its name what that has not seen.
+/// To whom something is played, and what: to a client all that is kept, or, by its name, what that has not seen.
 #[derive(Clone, Copy, Debug)]
 pub struct Player {
     pub offset: Offset,
@@ -48,7 +48,7 @@ pub fn lines_for(
     }
 }
 
-/// A client is shown a target.
+/// Shows a target to a client.
 #[tactic(auto, using(crate::proofs::Shows::show_all_is))]
 pub fn show_target(
     effects: &mut Vec<Effect>,
@@ -62,7 +62,7 @@ pub fn show_target(
     show_lines(effects, player.origin, shown)
 }
 
-/// A client is shown these lines.
+/// Shows these lines to a client.
 pub fn show_lines(
     effects: &mut Vec<Effect>,
     origin: Origin,
@@ -77,7 +77,7 @@ pub fn show_lines(
     Ok(())
 }
 
-/// A client is shown copies of these lines.
+/// Shows copies of these lines to a client.
 fn show_copies(
     alloc: Global,
     effects: &mut Vec<Effect>,
@@ -92,7 +92,7 @@ fn show_copies(
     Ok(())
 }
 
-/// Each of these clients is shown copies of these lines.
+/// Shows copies of these lines to each of these clients.
 fn show_copies_to_all(
     alloc: Global,
     effects: &mut Vec<Effect>,
@@ -108,7 +108,7 @@ fn show_copies_to_all(
     Ok(())
 }
 
-/// Each of these clients is shown these lines.
+/// Shows these lines to each of these clients.
 #[tactic(auto, using(crate::proofs::Shows::shown_to_last))]
 pub fn show_lines_to_all(
     alloc: Global,
@@ -119,14 +119,14 @@ pub fn show_lines_to_all(
 {
     let mut effects = Vec::new(alloc);
     if let Some((last, others)) = origins.split_last() {
-        // copies for the others first: the last client is shown the lines themselves
+        // copies for the others first: the last client gets the lines themselves
         show_copies_to_all(alloc, &mut effects, others, &lines)?;
         show_lines(&mut effects, *last, lines)?;
     }
     Ok(effects)
 }
 
-/// Each of these clients is shown a line.
+/// Shows a line to each of these clients.
 pub fn show_to_all(
     alloc: Global,
     origins: &[Origin],
@@ -145,7 +145,7 @@ pub fn show_to_all(
     show_last(effects, waiting, line)
 }
 
-/// Each of these clients but one is shown a line.
+/// Shows a line to each of these clients except one.
 pub fn show_to_others(
     alloc: Global,
     origins: &[Origin],
@@ -167,7 +167,7 @@ pub fn show_to_others(
     show_last(effects, waiting, line)
 }
 
-/// The last client, if there is one, is shown the line itself.
+/// Shows the line itself to the last client, if there is one.
 fn show_last(
     effects: Vec<Effect>,
     last: Option<Origin>,
@@ -183,7 +183,7 @@ fn show_last(
     Ok(effects)
 }
 
-/// Each of these clients is closed.
+/// Closes each of these clients.
 pub fn close_all(effects: &mut Vec<Effect>, origins: &[Origin]) -> Result<(), AllocError>
     ensures { OnOk result (effects.new.items ≡
         effects.old.items ++ map (λ o. Effect.Close o) origins.now) }
@@ -194,7 +194,7 @@ pub fn close_all(effects: &mut Vec<Effect>, origins: &[Origin]) -> Result<(), Al
     Ok(())
 }
 
-/// A client that attaches is shown a channel, where it is not detached: that the own nick is in it, and what is kept.
+/// Shows a channel to a client that attaches, unless it is detached: that the own nick is in it, and what is kept.
 pub fn show_channel(
     alloc: Global,
     effects: &mut Vec<Effect>,
@@ -215,7 +215,7 @@ pub fn show_channel(
     show_target(effects, player, channel.target())
 }
 
-/// A client that attaches is shown these channels.
+/// Shows these channels to a client that attaches.
 pub fn show_channels(
     alloc: Global,
     effects: &mut Vec<Effect>,
@@ -232,7 +232,7 @@ pub fn show_channels(
     Ok(())
 }
 
-/// A client that attaches is shown these queries.
+/// Shows these queries to a client that attaches.
 pub fn show_queries(
     effects: &mut Vec<Effect>,
     player: &Player,
@@ -247,7 +247,7 @@ pub fn show_queries(
     Ok(())
 }
 
-/// For a client that attaches it is asked who is in a channel, where the own nick is in it and it is not detached.
+/// Sends NAMES of a channel for a client that attaches, if the own nick is in it and it is not detached.
 pub fn ask_for_names(
     alloc: Global,
     effects: &mut Vec<Effect>,
@@ -264,7 +264,7 @@ pub fn ask_for_names(
     Ok(())
 }
 
-/// For a client that attaches it is asked who is in these channels.
+/// Sends NAMES of each of these channels for a client that attaches.
 pub fn ask_for_all_names(
     alloc: Global,
     effects: &mut Vec<Effect>,
@@ -280,7 +280,7 @@ pub fn ask_for_all_names(
     Ok(())
 }
 
-/// Each of these channels is joined again.
+/// Joins each of these channels again.
 pub fn rejoin_all(alloc: Global, channels: &[Channel]) -> Result<Vec<Effect>, AllocError>
     ensures { IfOk result (λ v. v.items ≡ rejoins channels.now) }
 {

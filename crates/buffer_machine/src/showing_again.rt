@@ -1,4 +1,4 @@
-//! What each is shown of a channel that is attached again.
+//! What each client is shown of a channel that is attached again.
 ghost use Rattle.std.specs.Prelude.{◌≡◌, ◌∷◌, codes, map, IfOk};
 ghost use Rattle.irc_line.specs.Lines.{spelling};
 ghost use Rattle.buffer_machine.specs.Messages.{own_line};
@@ -15,7 +15,7 @@ use irc_line::Name;
 use std::alloc::{AllocError, Global};
 use wire_bytes::Origin;
 
-/// All are shown that a channel is joined, and what each is played of it.
+/// Shows all that a channel is joined, and what each is played of it.
 pub fn show_joined(
     alloc: Global,
     setup: &Setup,
@@ -34,7 +34,7 @@ pub fn show_joined(
     Ok(effects)
 }
 
-/// Each is shown that a channel is joined, and what it is played of it by its name, if it has one.
+/// Shows each client that a channel is joined, and what is played of it, by its name if it has one.
 fn show_each_joined(
     alloc: Global,
     offset: Offset,
@@ -56,7 +56,8 @@ fn show_each_joined(
     Ok(effects)
 }
 
-/// The name of a client, where it is the first of these who have one, and those behind it.
+/// The place of a client's name, if the client is the first of these who have one, and the rest of
+/// them.
 fn next_reader(holders: &[Holder], origin: Origin) -> (Option<usize>, &[Holder])
     ensures reader { result.0 ≡ reader_next origin holders.now }
     ensures left { result.1.now ≡ readers_left origin holders.now }
@@ -73,7 +74,7 @@ fn next_reader(holders: &[Holder], origin: Origin) -> (Option<usize>, &[Holder])
     }
 }
 
-/// That a channel is joined, and what is played of it.
+/// A line that a channel is joined, and what is played of it.
 fn lines_again(
     alloc: Global,
     offset: Offset,

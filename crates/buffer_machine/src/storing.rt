@@ -1,4 +1,4 @@
-//! Where a line is stored: in the query or the channel that it is for. Each call takes the place of the line's channel.
+//! Where a line is stored: in the query or the channel that it is for. Each call gets the place of the line's channel.
 ghost use Rattle.std.specs.Prelude.{◌≡◌, Some, IfOk, IsTrue, OnOk};
 ghost use Rattle.irc_line.specs.Names.{is_name};
 ghost use Rattle.buffer_machine.specs.Buffers.{keeps};
@@ -61,7 +61,7 @@ pub fn store_in_channel(
     Ok(())
 }
 
-/// Keeps a line in the channel that stands at a place; the names see it that are here, unless it is detached.
+/// Keeps a line in the channel at a place; the names that are here see it, unless it is detached.
 fn keep_in_channel(buffers: &mut Buffers, place: Option<usize>, line: KeptLine)
     ensures { IsKeptAt place line (held_of buffers.old) (held_of buffers.new) }
 {
@@ -110,12 +110,13 @@ fn stores_in_channel(setup: &Setup, buffers: &Buffers, place: Option<usize>, lin
     (keeps_now(setup.clears_channels(), buffers) || buffers.is_detached(place)) && may_store(line)
 }
 
-/// Whether a query stores a line now: the line is for no known channel, but to the own nick from one who may have a query.
+/// Whether a query stores a line now: the line is for no known channel, but goes to the own nick from a sender who may
+/// have a query.
 fn stores_in_query(setup: &Setup, buffers: &Buffers, place: Option<usize>, line: &Line) -> bool
     requires { HasPlace line.now (held_of buffers.now) place }
     ensures { result ≡ stores_in_query setup.now (held_of buffers.now) line.now }
 {
-    // the line is looked at last: most lines are for a channel that is known
+    // the line is checked last: most lines are for a known channel
     if buffers.is_known(place) {
         return false;
     }
@@ -125,7 +126,8 @@ fn stores_in_query(setup: &Setup, buffers: &Buffers, place: Option<usize>, line:
     may_store(line) && is_query_line(line, buffers.nick.as_bytes())
 }
 
-/// Whether lines are kept now by targets that playing empties, or not: it does not, or nobody is attached, or a client had a name.
+/// Whether targets keep lines now: playing does not empty them (`clears`), or nobody is attached, or a client had a
+/// name.
 fn keeps_now(clears: bool, buffers: &Buffers) -> bool
     ensures { result ≡ keeps clears buffers.now.clients buffers.now.names.ids }
 {

@@ -17,7 +17,7 @@ use irc_line::Name;
 use std::alloc::{AllocError, Global};
 use wire_bytes::Origin;
 
-/// A target is played to a client, and emptied where playing empties it.
+/// Plays a target to a client, and empties it where playing empties it.
 pub fn play(
     alloc: Global,
     setup: &Setup,
@@ -35,7 +35,7 @@ pub fn play(
     Ok(effects)
 }
 
-/// A target is emptied, and a client told whether it is known.
+/// Empties a target, and answers whether it is known.
 pub fn clear(
     alloc: Global,
     buffers: &mut Buffers,
@@ -52,7 +52,7 @@ pub fn clear(
     Ok(effects)
 }
 
-/// All channels, all queries, or all of both are emptied.
+/// Empties all channels, all queries, or both.
 pub fn clear_kinds(
     alloc: Global,
     buffers: &mut Buffers,
@@ -73,7 +73,7 @@ pub fn clear_kinds(
     tell(alloc, &buffers.nick, origin, DONE)
 }
 
-/// A target keeps so many lines from now on, unless that is past what there may be.
+/// Sets how many lines a target keeps from now on, unless that is past the limit.
 pub fn resize(
     alloc: Global,
     buffers: &mut Buffers,
@@ -95,7 +95,7 @@ pub fn resize(
     Ok(effects)
 }
 
-/// A client is shown what is kept of a target.
+/// Shows a client what is kept of a target.
 fn answer_play(
     alloc: Global,
     setup: &Setup,
@@ -120,7 +120,7 @@ fn answer_play(
     }
 }
 
-/// A client is told whether a target is known.
+/// Answers a client whether a target is known.
 fn answer_known(
     alloc: Global,
     buffers: &Buffers,
@@ -135,7 +135,8 @@ fn answer_known(
     }
 }
 
-/// Empties a target that was played, where playing empties it; the name of the client, if it has one, has seen all of it.
+/// While no client gave a name, empties a target that was played, where playing empties it; after that notes that the
+/// client's name, if it has one, has seen all of it.
 fn note_played(setup: &Setup, buffers: &mut Buffers, origin: Origin, name: &[u8])
     ensures { held_of buffers.new ≡
         played_out setup.now origin (fold_name name.now) (held_of buffers.old) }
@@ -150,7 +151,7 @@ fn note_played(setup: &Setup, buffers: &mut Buffers, origin: Origin, name: &[u8]
     }
 }
 
-/// A name has seen all of a target that was played.
+/// Notes that a name has seen all of a target that was played.
 fn see_played(buffers: &mut Buffers, name: &[u8], place: usize)
     requires { place < readers }
     ensures { held_of buffers.new ≡

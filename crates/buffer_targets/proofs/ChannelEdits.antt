@@ -32,7 +32,7 @@ module _ (key : List ℕ) (cs : List ChannelLines) (at : ℕ) (rises : are_risin
   pub channel_found : (x : ChannelLines) → x ≡ get_or cs at x → Some x ≡ channel_of_key key cs
   channel_found x e = sym (found name_of key cs at x (rising_are_different _ rises) place e)
 
-  -- it keeps at least what the channel of the key keeps
+  -- it keeps at least as much as the channel of the key
   pub channel_keeps : (size : ℕ) (x : ChannelLines) → x ≡ get_or cs at x → ChannelKeeps key size cs → size ≤ x.target.lines.size
   channel_keeps size x e keeps = subst (λ found. KeepsSoMany size (option_map (λ c. c.target) found)) (sym (channel_found x e)) keeps
 
@@ -50,13 +50,13 @@ module _ (key : List ℕ) (cs : List ChannelLines) (at : ℕ) (rises : are_risin
   pub rising_removed : are_rising (channel_names (remove cs at)) ≡ true
   rising_removed = rw channel_removed (rising-filter name_of _ cs rises)
 
--- a place is one of a channel
+-- a place that was found is within the channels
 pub place_in_range : (key : List ℕ) (cs : List ChannelLines) (at : ℕ) → IsPlace key (channel_names cs) at → at < length cs
 place_in_range key [] at p = absurd p
 place_in_range key (c ∷ cs) zero p = omega arith
 place_in_range key (c ∷ cs) (suc at) p = let h = place_in_range key cs at p in omega arith
 
--- the channels rise as before where each keeps its name
+-- the channels still rise where each keeps its name
 pub rising_set : (cs : List ChannelLines) (at : ℕ) (x y : ChannelLines) → are_rising (channel_names cs) ≡ true → x ≡ get_or cs at x → y.target.name ≡ x.target.name → are_rising (channel_names (set cs at y)) ≡ true
 rising_set cs at x y rises e h = rw (names_set name_of cs at x y e h) rises
 
@@ -99,7 +99,7 @@ module _ (key : List ℕ) (cs : List ChannelLines) (at : ℕ) (gap : IsGap key (
   pub channel_unknown : list_any (has_key key) cs ≡ false
   channel_unknown = any_is name_of key cs ∙ none_at_gap key (channel_names cs) at gap
 
--- a channel put into the gap of its key
+-- a channel inserted into the gap of its key
 front_put : (c : ChannelLines) (cs : List ChannelLines) → IsGap (fold_name c.target.name) (channel_names cs) 0 → c ∷ cs ≡ put_channel c cs
 front_put c [] g = refl
 front_put c (d ∷ ds) g = rw (below-asym (fold_name c.target.name) (fold_name d.target.name) (and_left _ _ g)) refl
@@ -134,7 +134,7 @@ pub rising_made : (name : List ℕ) (key : List ℕ) (cs : List ChannelLines) (a
 rising_made name key cs at c k gap h rises =
     rising_put c cs at (subst (λ f. IsGap f (channel_names cs) at) (k ∙ ap fold_name (sym h)) gap) rises
 
--- what a channel that is seen, if clients are shown it, is named
+-- marking a channel as seen, if clients are shown it, keeps its name
 pub open_seen_name : (here : List Bool) (c : ChannelLines) → (if c.detached then c else over (seen_all here) c).target.name ≡ c.target.name
 open_seen_name here c = by (c.detached)
   where

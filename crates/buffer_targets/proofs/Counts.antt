@@ -1,4 +1,4 @@
--- What is counted of the lines that readers have seen, one reader after the other.
+-- How the lines that readers have seen are counted, one reader after the other.
 use Rattle.std.proofs.Common.{◌≡◌, ℕ, zero, suc, ◌+◌, ◌<◌, ◌≤◌, Bool, List, [], ◌∷◌, ◌++◌, length, take, drop, set, get_or, refl, ap, arith, add-one}
 use Rattle.std.specs.Prelude.{Some, slice_get}
 use Rattle.buffer_targets.specs.Targets.{counted, counted_one}

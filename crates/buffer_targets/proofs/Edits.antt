@@ -1,4 +1,4 @@
--- What an edit at the place of a key does to a list of what has names.
+-- What an edit at the place of a key does to a list of named items.
 use Rattle.std.proofs.Common.{◌≡◌, ℕ, zero, suc, ◌+◌, ◌<◌, length, arith, add-one, Bool, true, false, not, ◌||◌, if◌then◌else◌, List, [], ◌∷◌, ◌++◌, map, get_or, set, take, drop, refl, ap}
 use Rattle.std.specs.Prelude.{filter, find, Some, None}
 use Rattle.std.specs.List.{list_any, insert, remove}
@@ -8,7 +8,7 @@ use Rattle.buffer_targets.specs.Places.{IsPlace, are_different}
 use Rattle.buffer_targets.proofs.Rising.{before_is_other, behind_are_others}
 
 module _ {A : Type 0} (name : A → List ℕ) where
-  -- a key that no name has: nothing is changed, removed or found
+  -- for a key that no name has, nothing is changed, removed or found
   pub none_changed : (key : List ℕ) (f : A → A) (xs : List A) → is_in key (map name xs) ≡ false → map (λ a. if at_key key (name a) then f a else a) xs ≡ xs
   none_changed key f [] e = refl
   none_changed key f (x ∷ xs) e = rw (or_left_false (at_key key (name x)) (is_in key (map name xs)) e) (ap (λ ys. x ∷ ys) (none_changed key f xs (or_right_false (at_key key (name x)) _ e)))
@@ -47,7 +47,7 @@ module _ {A : Type 0} (name : A → List ℕ) where
   found key (y ∷ xs) zero x d p e = rw (p, e) refl
   found key (y ∷ xs) (suc at) x d p e = rw (before_is_other key (name y) (map name xs) at d p) (found key xs at x (and_right _ _ d) p e)
 
-  -- names stay under a change that keeps each one
+  -- names stay under a change that keeps each of them
   pub names_stay : (f : A → A) → ((a : A) → name (f a) ≡ name a) → (xs : List A) → map name (map f xs) ≡ map name xs
   names_stay f h [] = refl
   names_stay f h (x ∷ xs) = rw (h x) (ap (λ ns. name x ∷ ns) (names_stay f h xs))

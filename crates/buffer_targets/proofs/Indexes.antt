@@ -26,7 +26,7 @@ all_at p [] k d e h = absurd (omega arith)
 all_at p (x ∷ xs) zero d e h = and_left _ _ e
 all_at p (x ∷ xs) (suc k) d e h = all_at p xs k d (and_right _ _ e) (omega arith)
 
--- a place that an index is lowered by is no less than that
+-- places that are lowered by a number are at least that number
 pub lowers : (by : ℕ) (xs init : List ℕ) (k d : ℕ) → xs ≡ map (λ i. i - by) (take k init) ++ drop k init → k < length init → list_all (λ i. nat_le by i) init ≡ true → by ≤ get_or xs k d
 lowers by xs init k d e h all =
     rw e (lowers_by init k d h all)
@@ -65,7 +65,7 @@ found_by key names (i ∷ places) zero x r h e =
     record { in_range = in_range; place = place_of key names x in_range (rw e h) }
 found_by key names (i ∷ places) (suc p) x r h e = found_by key names places p x (and_right _ _ r) h e
 
--- the place that stands in the index at a key's place there is the key's
+-- the place in the index at a key's position is that of the key's name
 pub found_in_index : (key : List ℕ) (names : List (List ℕ)) (places : List ℕ) (p x : ℕ) → IsIndex names places → IsPlace key (names_at names places) p → x ≡ get_or places p x → IsFound key names x
 found_in_index key names places p x index h e = found_by key names places p x index.in_range h e
 
@@ -80,12 +80,12 @@ none_at key names (j ∷ places) i h e =
     (λ same. subst (λ k. at_key key (name_at names k) ≡ false) (eq_of j i same) (or_left_false _ _ e))
     (λ other more. none_at key names places i more (or_right_false (at_key key (name_at names j)) _ e))
 
--- a key that has a gap in the index is no name's
+-- a key that has a gap in the index belongs to no name
 pub none_in_index : (key : List ℕ) (names : List (List ℕ)) (places : List ℕ) (p : ℕ) → IsIndex names places → IsGap key (names_at names places) p → is_in key names ≡ false
 none_in_index key names places p index gap =
     none_by key names (λ i l. none_at key names places i (index.complete i l) (none_at_gap key (names_at names places) p gap))
 
--- one name more
+-- with one more name
 
 is_in_pushed : (key n : List ℕ) (ns : List (List ℕ)) → is_in key ns ≡ false → at_key key n ≡ false → is_in key (ns ++ n ∷ []) ≡ false
 is_in_pushed key n [] e f = or_both_false _ _ f refl
@@ -139,7 +139,7 @@ module _ (names : List (List ℕ)) (places : List ℕ) (n : List ℕ) (p : ℕ) 
       complete_by true e = any_kept (λ j. j == i) places p (length names) (index.complete i (lt_of i (length names) e))
       complete_by false e = any_inserted (λ j. j == i) places p (length names) (let s = sized in grind (arith, nat_tests))
 
-  -- the index with a name that is made
+  -- the index with one more name
   pub index_pushed : IsIndex (names ++ n ∷ []) (insert places p (length names))
   index_pushed = record {
     different = different_pushed n names index.different (none_in_index (fold_name n) names places p index gap);

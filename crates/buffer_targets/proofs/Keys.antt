@@ -11,7 +11,7 @@ use Rattle.irc_line.proofs.Booleans.{and_left, and_right, and_both, false_of}
 use Rattle.irc_line.proofs.Order.{below-trans, below-irrefl, key_is}
 use Rattle.irc_line.proofs.SameBytes.{same_bytes-sym}
 
--- a comparison's answer, as a test
+-- the result of a comparison, as a test
 pub less_is_below : (a b : List ℕ) (o : Ordering) → o ≡ slice_cmp nat_cmp a b → is_lt o ≡ is_below a b
 less_is_below = same_from_slice_cmp nat_cmp is_lt is_below refl (λ _ _. refl) (λ _ _. refl) (λ x y xs ys o h. grind (arith, nat_tests))
 

@@ -30,7 +30,7 @@ module _ (key : List ℕ) (ts : List TargetLines) (at : ℕ) (different : are_di
   pub query_found : (x : TargetLines) → x ≡ get_or ts at x → Some x ≡ query_of_key key ts
   query_found x e = sym (found name_of key ts at x different place e)
 
-  -- it keeps at least what the query of the key keeps
+  -- it keeps at least as much as the query of the key
   pub query_keeps : (size : ℕ) (x : TargetLines) → x ≡ get_or ts at x → QueryKeeps key size ts → size ≤ x.lines.size
   query_keeps size x e keeps = subst (KeepsSoMany size) (sym (query_found x e)) keeps
 
@@ -45,7 +45,7 @@ module _ (key : List ℕ) (ts : List TargetLines) (absent : is_in key (query_nam
   pub no_query_found : None ≡ query_of_key key ts
   no_query_found = sym (none_found name_of key ts absent)
 
--- the index is as before where each keeps its name
+-- the index is unchanged where each keeps its name
 pub index_set : (ts : List TargetLines) (places : List ℕ) (at : ℕ) (x y : TargetLines) → IsIndex (query_names ts) places → x ≡ get_or ts at x → y.name ≡ x.name → IsIndex (query_names (set ts at y)) places
 index_set ts places at x y index e h = subst (λ ns. IsIndex ns places) (sym (names_set name_of ts at x y e h)) index
 
@@ -56,7 +56,7 @@ same_name_of (Err e) f stays x y h k = ap (λ c. c.name) k
 pub index_map : (f : TargetLines → TargetLines) → ((t : TargetLines) → (f t).name ≡ t.name) → (ts : List TargetLines) (places : List ℕ) → IsIndex (query_names ts) places → IsIndex (query_names (map f ts)) places
 index_map f stays ts places index = subst (λ ns. IsIndex ns places) (sym (names_stay name_of f stays ts)) index
 
--- a query more, and queries that go
+-- one more query, and queries that are dropped
 pub index_added : (ts : List TargetLines) (places : List ℕ) (t : TargetLines) (gap : ℕ) → IsIndex (query_names ts) places → IsGap (fold_name t.name) (names_at (query_names ts) places) gap
     → IsIndex (query_names (ts ++ t ∷ [])) (insert places gap (length ts))
 index_added ts places t gap index free =
@@ -65,7 +65,7 @@ index_added ts places t gap index free =
 pub index_newest : (k : ℕ) (ts : List TargetLines) (places : List ℕ) → IsIndex (query_names ts) places → IsIndex (query_names (drop k ts)) (lowered k places)
 index_newest k ts places index = rw (← drop-map name_of k ts) (index_dropped k (query_names ts) places index)
 
--- what a stored line does, where there is a query of the name and where there is none
+-- what storing a line does, with a query of the name and without one
 pub query_pushed : (most size : ℕ) (name : List ℕ) (line : ℕ × Parts) (here : List Bool) (key : List ℕ) (ts : List TargetLines) (at : ℕ) (x y : TargetLines) → key ≡ fold_name name
     → are_different (query_names ts) ≡ true → IsPlace key (query_names ts) at → x ≡ get_or ts at x → y ≡ pushed line here x → set ts at y ≡ query_stored most size name line here ts
 query_pushed most size name line here key ts at x y k different place e h =

@@ -9,18 +9,18 @@ use Rattle.buffer_targets.specs.Places.{IsPlace, IsGap, are_different}
 use Rattle.buffer_targets.proofs.Keys.{above_is_other, below_is_other, below_later}
 use Rattle.irc_line.proofs.Order.{key_is}
 
--- names that are above a key do not have it
+-- names above a key do not have it
 pub none_above : (key : List ℕ) (ns : List (List ℕ)) → list_all (λ n. is_below key (fold_name n)) ns ≡ true → is_in key ns ≡ false
 none_above key [] e = refl
 none_above key (n ∷ ns) e = or_both_false _ _ (above_is_other key n (and_left _ _ e)) (none_above key ns (and_right _ _ e))
 
--- no name has a key that has a gap
+-- a key that has a gap belongs to no name
 pub none_at_gap : (key : List ℕ) (ns : List (List ℕ)) (at : ℕ) → IsGap key ns at → is_in key ns ≡ false
 none_at_gap key ns zero g = none_above key ns g
 none_at_gap key [] (suc at) g = absurd g
 none_at_gap key (n ∷ ns) (suc at) g = or_both_false _ _ (below_is_other key n g.0) (none_at_gap key ns at g.1)
 
--- some name has a key that has a place
+-- a key that has a place belongs to some name
 pub some_at_place : (key : List ℕ) (ns : List (List ℕ)) (at : ℕ) → IsPlace key ns at → is_in key ns ≡ true
 some_at_place key [] at p = absurd p
 some_at_place key (n ∷ ns) zero p = rw p refl
@@ -32,12 +32,12 @@ rising_are_different [] r = refl
 rising_are_different (n ∷ ns) r =
     and_both _ _ (not_from _ (none_above (fold_name n) ns (below_later n ns r))) (rising_are_different ns (and_right _ _ r))
 
--- of names with different keys, the one before a key's place does not have it
+-- where names have different keys, the ones before a key's place do not have the key
 pub before_is_other : (key n : List ℕ) (ns : List (List ℕ)) (at : ℕ) → are_different (n ∷ ns) ≡ true → IsPlace key ns at → at_key key n ≡ false
 before_is_other key n ns at d p =
     false_of _ (λ h. sym (not_true _ (and_left _ _ d)) ∙ subst (λ k. is_in k ns ≡ true) (key_is key n h) (some_at_place key ns at p))
 
--- and the ones behind it do not either
+-- and neither do the ones after it
 pub behind_are_others : (key n : List ℕ) (ns : List (List ℕ)) → are_different (n ∷ ns) ≡ true → at_key key n ≡ true → is_in key ns ≡ false
 behind_are_others key n ns d h = subst (λ k. is_in k ns ≡ false) (sym (key_is key n h)) (not_true _ (and_left _ _ d))
 
@@ -46,7 +46,7 @@ pub front_rises : (n : List ℕ) (ns : List (List ℕ)) → list_all (λ m. is_b
 front_rises n [] e = refl
 front_rises n (m ∷ ns) e = and_left _ _ e
 
--- a name put where its key's gap is
+-- a name inserted at its key's gap
 insert_below : (n m : List ℕ) (ns : List (List ℕ)) (at : ℕ) → is_below (fold_name n) (fold_name m) ≡ true → is_below_all n ns ≡ true → is_below_all n (insert ns at m) ≡ true
 insert_below n m ns zero e b = e
 insert_below n m [] (suc at) e b = e
@@ -73,7 +73,7 @@ module _ {A : Type 0} (name : A → List ℕ) (p : A → Bool) where
       rw e (and_both _ _ (front_rises (name x) _ (filtered_above (fold_name (name x)) xs (below_later (name x) (map name xs) r))) h)
   rising-filter_by x xs false e r h = rw e h
 
-  -- what is left of names that rise rises
+  -- what remains of rising names rises
   pub rising-filter : (xs : List A) → are_rising (map name xs) ≡ true → are_rising (map name (filter p xs)) ≡ true
   rising-filter [] r = refl
   rising-filter (x ∷ xs) r = rising-filter_by x xs (p x) refl r (rising-filter xs (and_right _ _ r))

@@ -1,5 +1,5 @@
--- What is held of a target: the spelling of its making, its last lines, and how many of them each reader has seen. And what is done
--- to one. Readers are numbered from 0, 64 at most.
+-- What is held of a target: the name with which it was made, its last lines, and how many of them each reader has seen;
+-- and what is done to one. Readers are numbered from 0; there are at most 64.
 use Rattle.std.specs.Prelude.{◌≡◌, ℕ, suc, ◌-◌, replicate, slice_index, slice_set, ◌<◌, ◌≤◌, Bool, true, false, not, if◌then◌else◌, List, [], ◌∷◌, ◌++◌, length, drop, map, filter, find, Option, None, Some, option_map, refl}
 use Rattle.std.specs.List.{list_any}
 use Rattle.std.specs.Coded.{Coded, code_by, coded×, coded_list, coded_ℕ, coded_bool}
@@ -11,7 +11,7 @@ use Rattle.buffer_lines.specs.Stamps.{Ring, ring, ring_code}
 use Rattle.buffer_targets.specs.Places.{IsPlace, IsGap, names_at}
 use Rattle.buffer_targets.specs.declared.seen.TheConstants.{READERS}
 
--- a target by the spelling of its making, with its last lines
+-- a target: the name with which it was made, its last lines, and how many of them each reader has seen
 pub record TargetLines : Type 0 where
   pub name : List ℕ
   pub lines : Ring
@@ -29,19 +29,20 @@ readers = READERS
 abbrev pub none_seen : List ℕ
 none_seen = replicate readers 0
 
--- how many one has seen, by whether it is here, if that is told
+-- how many lines one reader has seen, by whether it is here, if that is known
 abbrev pub counted_one : ℕ → ℕ → Option Bool → ℕ → ℕ
 counted_one all gone None n = n
 counted_one all gone (Some true) n = all
 counted_one all gone (Some false) n = n - gone
 
--- how many lines each has seen, where these many are there now and so many of the oldest went: those who are here see all
+-- how many lines each has seen, if there are this many now and this many of the oldest were dropped: those who are here
+-- see all
 abbrev pub counted : ℕ → ℕ → List Bool → List ℕ → List ℕ
 counted all gone [] seen = seen
 counted all gone (h ∷ hs) [] = []
 counted all gone (h ∷ hs) (n ∷ ns) = counted_one all gone (Some h) n ∷ counted all gone hs ns
 
--- so many of the oldest lines went
+-- this many of the oldest lines were dropped
 abbrev pub fewer : ℕ → List ℕ → List ℕ
 fewer gone seen = map (λ n. n - gone) seen
 
@@ -51,29 +52,29 @@ target_code =
     code_by (List ℕ × (Ring × List ℕ)) (coded× (coded_list coded_ℕ) (coded× ring_code (coded_list coded_ℕ))) (λ t. (t.name, (t.lines, t.seen)))
     (λ p. target p.0 p.1.0 p.1.1) (λ _. refl)
 
--- it keeps nothing, and as many lines as before from now on
+-- it keeps nothing now, and as many lines as before from now on
 abbrev pub cleared : TargetLines → TargetLines
 cleared t = target t.name (ring [] t.lines.size) none_seen
 
--- it keeps so many lines from now on
+-- it keeps at most this many lines from now on
 abbrev pub resized : ℕ → TargetLines → TargetLines
 resized n t = target t.name (ring (keep_last n t.lines.lines) n) (fewer (length t.lines.lines - n) t.seen)
 
--- one line more in a ring, with its moment
+-- one more line in a ring, with its moment
 abbrev pub ring_pushed : ℕ × Parts → Ring → Ring
 ring_pushed line r = ring (keep_last r.size (r.lines ++ line ∷ [])) r.size
 
--- one line more came, with its moment, and these readers are here
+-- one more line came, with its moment, and these readers are here
 abbrev pub pushed : ℕ × Parts → List Bool → TargetLines → TargetLines
 pushed line here t =
     target t.name (ring_pushed line t.lines)
     (counted (length (ring_pushed line t.lines).lines) (suc (length t.lines.lines) - length (ring_pushed line t.lines).lines) here t.seen)
 
--- these readers have seen all that is kept
+-- these readers have seen all lines that are kept
 abbrev pub seen_all : List Bool → TargetLines → TargetLines
 seen_all here t = target t.name t.lines (counted (length t.lines.lines) 0 here t.seen)
 
--- a reader alone, of all that there may be
+-- one reader alone, out of all possible ones
 abbrev pub reader : ℕ → List Bool
 reader i = slice_set (replicate readers false) i true
 
@@ -81,14 +82,14 @@ reader i = slice_set (replicate readers false) i true
 abbrev pub unseen_of : ℕ → TargetLines → List (ℕ × Parts)
 unseen_of i t = drop (slice_index t.seen i) t.lines.lines
 
--- a target that is found keeps so many lines, or more; or none is found
+-- the target that is found, if any, keeps at least this many lines
 abbrev pub KeepsSoMany : ℕ → Option TargetLines → Type 0
 KeepsSoMany size None = Unit {0}
 KeepsSoMany size (Some t) = size ≤ t.lines.size
 
 -- Channels, in rising order of their keys
 
--- a channel's target, whether the own nick is in the channel, and whether clients are shown it
+-- a channel's target, whether the own nick is in the channel, and whether clients are shown nothing of it
 pub record ChannelLines : Type 0 where
   pub target : TargetLines
   pub joined : Bool
@@ -102,7 +103,7 @@ channel target joined detached = record { target = target; joined = joined; deta
 abbrev pub channel_code : Coded ChannelLines
 channel_code = code_by (TargetLines × (Bool × Bool)) (coded× target_code (coded× coded_bool coded_bool)) (λ c. (c.target, (c.joined, c.detached))) (λ p. channel p.0 p.1.0 p.1.1) (λ _. refl)
 
--- done to a channel's target
+-- a change of a channel's target
 abbrev pub over : (TargetLines → TargetLines) → ChannelLines → ChannelLines
 over f c = channel (f c.target) c.joined c.detached
 
@@ -110,7 +111,7 @@ over f c = channel (f c.target) c.joined c.detached
 abbrev pub with_joined : Bool → ChannelLines → ChannelLines
 with_joined joined c = channel c.target joined c.detached
 
--- clients are shown the channel no more, or again
+-- the channel is no longer shown to clients, or is shown again
 abbrev pub with_detached : Bool → ChannelLines → ChannelLines
 with_detached detached c = channel c.target c.joined detached
 
@@ -118,7 +119,7 @@ with_detached detached c = channel c.target c.joined detached
 abbrev pub has_key : List ℕ → ChannelLines → Bool
 has_key key c = at_key key c.target.name
 
--- done to the channel of a key, and to no other
+-- a change of the channel with a key, and of no other
 abbrev pub at_channel : List ℕ → (ChannelLines → ChannelLines) → List ChannelLines → List ChannelLines
 at_channel key f cs = map (λ c. if has_key key c then f c else c) cs
 
@@ -126,7 +127,7 @@ at_channel key f cs = map (λ c. if has_key key c then f c else c) cs
 abbrev pub channel_of_key : List ℕ → List ChannelLines → Option ChannelLines
 channel_of_key key cs = find (has_key key) cs
 
--- the channel of a key keeps so many lines, or more; or there is none
+-- the channel of a key, if any, keeps at least this many lines
 abbrev pub ChannelKeeps : List ℕ → ℕ → List ChannelLines → Type 0
 ChannelKeeps key size cs = KeepsSoMany size (option_map (λ c. c.target) (channel_of_key key cs))
 
@@ -134,7 +135,7 @@ ChannelKeeps key size cs = KeepsSoMany size (option_map (λ c. c.target) (channe
 abbrev pub channel_names : List ChannelLines → List (List ℕ)
 channel_names cs = map (λ c. c.target.name) cs
 
--- the channel of a key stands at this place, or there is none
+-- the channel of a key is at this place, or there is none
 abbrev pub StandsAt : List ℕ → List ChannelLines → Option ℕ → Type 0
 StandsAt key cs None = is_in key (channel_names cs) ≡ false
 StandsAt key cs (Some at) = IsPlace key (channel_names cs) at
@@ -155,23 +156,23 @@ has_channel key cs = list_any (has_key key) cs
 abbrev pub channel_resized : List ℕ → ℕ → List ChannelLines → List ChannelLines
 channel_resized key size cs = at_channel key (over (resized size)) cs
 
--- channels of these names that are shown to clients and that the own nick is not in, with so many lines to keep and none kept
+-- channels of these names that are shown to clients and that the own nick is not in, each of this size and empty
 abbrev pub unjoined : ℕ → List (List ℕ) → List ChannelLines
 unjoined size names = map (λ c. channel (target c (ring [] size) none_seen) false false) names
 
--- a channel put where its key belongs
+-- a channel inserted where its key belongs
 abbrev pub put_channel : ChannelLines → List ChannelLines → List ChannelLines
 put_channel c [] = c ∷ []
 put_channel c (d ∷ ds) = if is_below (fold_name d.target.name) (fold_name c.target.name) then d ∷ put_channel c ds else c ∷ d ∷ ds
 
--- a channel that is joined is made where there is none of its key
+-- a channel that is joined is made if none has its key
 abbrev pub joined_by : List ℕ → ℕ → List ChannelLines → List ChannelLines
 joined_by name size cs =
     if list_any (has_key (fold_name name)) cs
     then at_channel (fold_name name) (with_joined true) cs
     else put_channel (channel (target name (ring [] size) none_seen) true false) cs
 
--- the channel of a key goes with all that it has
+-- the channel of a key is removed with all that it has
 abbrev pub without_channel : List ℕ → List ChannelLines → List ChannelLines
 without_channel key cs = filter (λ c. not (has_key key c)) cs
 
@@ -179,17 +180,17 @@ without_channel key cs = filter (λ c. not (has_key key c)) cs
 abbrev pub open_cleared : List ChannelLines → List ChannelLines
 open_cleared cs = map (λ c. if c.detached then c else over cleared c) cs
 
--- of the channels that clients are shown these readers have seen all
+-- these readers have seen all lines of the channels that clients are shown
 abbrev pub open_seen : List Bool → List ChannelLines → List ChannelLines
 open_seen here cs = map (λ c. if c.detached then c else over (seen_all here) c) cs
 
--- Queries, in order of making
+-- Queries, in the order in which they were made
 
 -- a query has this key
 abbrev pub has_name_key : List ℕ → TargetLines → Bool
 has_name_key key t = at_key key t.name
 
--- done to the query of a key, and to no other
+-- a change of the query with a key, and of no other
 abbrev pub at_query : List ℕ → (TargetLines → TargetLines) → List TargetLines → List TargetLines
 at_query key f ts = map (λ t. if has_name_key key t then f t else t) ts
 
@@ -197,7 +198,7 @@ at_query key f ts = map (λ t. if has_name_key key t then f t else t) ts
 abbrev pub query_of_key : List ℕ → List TargetLines → Option TargetLines
 query_of_key key ts = find (has_name_key key) ts
 
--- the query of a key keeps so many lines, or more; or there is none
+-- the query of a key, if any, keeps at least this many lines
 abbrev pub QueryKeeps : List ℕ → ℕ → List TargetLines → Type 0
 QueryKeeps key size ts = KeepsSoMany size (query_of_key key ts)
 
@@ -217,20 +218,20 @@ query_resized key size ts = at_query key (resized size) ts
 abbrev pub indexed : List TargetLines → List ℕ → List (List ℕ)
 indexed ts places = names_at (query_names ts) places
 
--- where among the queries that of a key stands
+-- the place of a key's query among the queries
 abbrev pub IsQueryPlace : List ℕ → List TargetLines → ℕ → Type 0
 IsQueryPlace key ts place = (place < length ts) × IsPlace key (query_names ts) place
 
--- no query has the key; its place would stand here in the index
+-- no query has the key; its place in the index would be here
 abbrev pub IsQueryGap : List ℕ → List TargetLines → List ℕ → ℕ → Type 0
 IsQueryGap key ts places gap = (gap ≤ length places) × IsGap key (indexed ts places) gap × (is_in key (query_names ts) ≡ false)
 
--- the last of a list, at most so many
+-- the last items of a list, at most this many
 abbrev pub newest : {A : Type 0} → ℕ → List A → List A
 newest n xs = drop (length xs - n) xs
 
--- a line stored in the query of a name, which is made where there is none, with so many lines to keep; past the most that
--- there may be, the oldest made goes
+-- a line stored in the query of a name, which is made with this size if there is none; past the most queries allowed,
+-- the one made first is dropped
 abbrev pub query_stored : ℕ → ℕ → List ℕ → ℕ × Parts → List Bool → List TargetLines → List TargetLines
 query_stored most size name line here ts =
     if list_any (has_name_key (fold_name name)) ts

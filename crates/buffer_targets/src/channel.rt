@@ -64,14 +64,14 @@ impl Channel {
         self.detached
     }
 
-    /// Lets all lines go.
+    /// Removes all lines.
     pub(crate) fn clear(&mut self)
         ensures { self.new ≡ over cleared self.old }
     {
         self.target.clear();
     }
 
-    /// Lets all lines go where clients are shown the channel.
+    /// Removes all lines where clients are shown the channel.
     pub(crate) fn clear_if_open(&mut self)
         ensures { self.new ≡ (if self.old.detached then self.old else over cleared self.old) }
     {
@@ -80,7 +80,7 @@ impl Channel {
         }
     }
 
-    /// Keeps at most so many lines from now on. A refused call changes nothing.
+    /// Keeps at most this many lines from now on. A refused call changes nothing.
     pub(crate) fn resize(&mut self, size: usize) -> Result<(), AllocError>
         ensures ok { OnOk result (self.new ≡ over (resized size) self.old) }
         ensures err { OnErr result (self.new ≡ self.old) }
@@ -89,21 +89,21 @@ impl Channel {
         self.target.resize(size)
     }
 
-    /// Keeps one line more, which those readers see who are here.
+    /// Adds a line, which the readers who are here see.
     pub(crate) fn push(&mut self, line: KeptLine, here: &[bool])
         ensures { self.new ≡ over (pushed line here.now) self.old }
     {
         self.target.push(line, here);
     }
 
-    /// Notes that those readers who are here have seen all that is kept.
+    /// Notes that the readers who are here have seen all that is kept.
     pub(crate) fn see(&mut self, here: &[bool])
         ensures { self.new ≡ over (seen_all here.now) self.old }
     {
         self.target.see(here);
     }
 
-    /// The same, where clients are shown the channel.
+    /// Notes the same where clients are shown the channel.
     pub(crate) fn see_if_open(&mut self, here: &[bool])
         ensures { self.new ≡
             (if self.old.detached then self.old else over (seen_all here.now) self.old) }

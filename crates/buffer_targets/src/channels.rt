@@ -13,7 +13,8 @@ use irc_line::Name;
 use std::alloc::{AllocError, Global};
 use std::marker::Model;
 
-/// Channels in rising order of their keys, found by name, in any spelling of it. Bytes that are no channel's name find nothing.
+/// Channels in rising order of their keys, found by name in any letter case. Bytes that are no channel's name find
+/// nothing.
 #[derive(Drop)]
 pub struct Channels {
     channels: Vec<Channel>,
@@ -35,7 +36,7 @@ impl Model for Channels {
 }
 
 impl Channels {
-    /// Channels of these names that the own nick is not in, shown to clients, with so many lines to keep each and none kept.
+    /// Channels of these names that the own nick is not in, shown to clients, each of this size and empty.
     pub fn new(alloc: Global, names: &[Name], size: usize) -> Result<Channels, AllocError>
         requires { IsTrue (are_rising names.now) }
         ensures { IfOk result (λ cs. cs ≡ unjoined size names.now) }
@@ -53,7 +54,7 @@ impl Channels {
         self.channels.as_slice()
     }
 
-    /// Where the channel of a name is, or where it would stand.
+    /// The place of a name's channel, or where it would be.
     fn search(&self, name: &[u8]) -> Result<usize, usize>
         ensures bound { IsSearchInRange result (length self.now) }
         ensures place { IsSearched (fold_name name.now) (channel_names self.now) result }
@@ -92,7 +93,7 @@ impl Channels {
         }
     }
 
-    /// Where the channel of a name stands. It stands there until a channel is made or let go.
+    /// The place of a name's channel. It is valid until a channel is made or removed.
     pub fn place_of(&self, name: &[u8]) -> Option<usize>
         ensures { StandsAt (fold_name name.now) self.now result }
     {
@@ -102,7 +103,7 @@ impl Channels {
         }
     }
 
-    /// The channel that stands at a place.
+    /// The channel at a place.
     pub fn at(&self, place: Option<usize>) -> Option<&Channel>
         ensures { IsChannelAt self.now place (option_map (λ c. c.now) result) }
     {
@@ -118,7 +119,7 @@ impl Channels {
         }
     }
 
-    /// Keeps one line more in the channel that stands at a place, which those readers see who are here.
+    /// Adds a line to the channel at a place; the readers who are here see it.
     pub fn store_at(&mut self, place: Option<usize>, line: KeptLine, here: &[bool])
         ensures { IsStoredAt place line here.now self.old self.new }
     {
@@ -132,7 +133,7 @@ impl Channels {
         }
     }
 
-    /// Notes of the channel of a name whether the own nick is in it.
+    /// Sets whether the own nick is in the channel of a name.
     pub fn set_joined_at(&mut self, name: &[u8], joined: bool)
         ensures { self.new ≡ at_channel (fold_name name.now) (with_joined joined) self.old }
     {
@@ -142,7 +143,7 @@ impl Channels {
         }
     }
 
-    /// Notes of the channel of a name whether clients are shown nothing of it.
+    /// Sets whether clients are shown nothing of the channel of a name.
     pub fn set_detached_at(&mut self, name: &[u8], detached: bool)
         ensures { self.new ≡ at_channel (fold_name name.now) (with_detached detached) self.old }
     {
@@ -152,8 +153,8 @@ impl Channels {
         }
     }
 
-    /// Notes that the own nick is in the channel of this name, which is made where there is none of its key, with so many lines
-    /// to keep. A refused call changes nothing.
+    /// Notes that the own nick is in the channel of this name, which is made with this size if none has its key. A
+    /// refused call changes nothing.
     pub fn join(&mut self, name: &Name, size: usize) -> Result<(), AllocError>
         ensures ok { OnOk result (self.new ≡ joined_by name.now size self.old) }
         ensures err { OnErr result (self.new ≡ self.old) }
@@ -171,7 +172,7 @@ impl Channels {
         }
     }
 
-    /// Lets the channel of a name go with all that it has.
+    /// Removes the channel of a name with all that it has.
     pub fn remove_at(&mut self, name: &[u8])
         ensures { self.new ≡ without_channel (fold_name name.now) self.old }
     {
@@ -197,7 +198,7 @@ impl Channels {
         clear_each_open(self.channels.as_mut_slice());
     }
 
-    /// Notes of the channel of a name that those readers who are here have seen all that is kept.
+    /// Notes that the readers who are here have seen all that is kept of a name's channel.
     pub fn see_at(&mut self, name: &[u8], here: &[bool])
         ensures { self.new ≡ at_channel (fold_name name.now) (over (seen_all here.now)) self.old }
     {
@@ -207,7 +208,7 @@ impl Channels {
         }
     }
 
-    /// Notes of the channels that clients are shown that those readers who are here have seen all that is kept.
+    /// Notes that the readers who are here have seen all that is kept of the channels that clients are shown.
     pub fn see_open(&mut self, here: &[bool])
         ensures { self.new ≡ open_seen here.now self.old }
     {

@@ -11,7 +11,7 @@ use crate::target::Target;
 use std::alloc::AllocError;
 use std::cmp::Ordering;
 
-// How the target at a place compares with a name; the places of an index are places of targets.
+// How the target at a place compares with a name. An index holds only places of targets.
 fn compare_at(targets: &[Target], place: usize, name: &[u8]) -> Ordering
     ensures { result ≡ compared_at (query_names targets.now) (fold_name name.now) place }
 {
@@ -22,7 +22,7 @@ fn compare_at(targets: &[Target], place: usize, name: &[u8]) -> Ordering
     }
 }
 
-// Where in the index the place of a name's target stands, or would stand.
+// The position in the index of the place of a name's target, or where it would be.
 fn search_index(targets: &[Target], places: &[usize], name: &[u8]) -> Result<usize, usize>
     requires { IsIndex (query_names targets.now) places.now }
     ensures bound { IsSearchInRange result (length places.now) }
@@ -31,7 +31,7 @@ fn search_index(targets: &[Target], places: &[usize], name: &[u8]) -> Result<usi
     places.binary_search_by(|place| compare_at(targets, *place, name))
 }
 
-/// The place of a name's target, or where in the index it would stand.
+/// The place of a name's target, or where in the index it would be.
 pub fn search(targets: &[Target], places: &[usize], name: &[u8]) -> Result<usize, usize>
     requires { IsIndex (query_names targets.now) places.now }
     ensures found { IfOk result (IsQueryPlace (fold_name name.now) targets.now) }
@@ -43,7 +43,7 @@ pub fn search(targets: &[Target], places: &[usize], name: &[u8]) -> Result<usize
     }
 }
 
-/// Adds a target whose key has its place in the index at this gap. A refused call changes nothing.
+/// Adds a target whose place belongs into the index at this gap. A refused call changes nothing.
 pub fn insert(
     targets: &mut Vec<Target>,
     places: &mut Vec<usize>,
@@ -57,13 +57,13 @@ pub fn insert(
     ensures err { OnErr result (targets.new.items ≡ targets.old.items) }
     ensures index { IsIndex (query_names targets.new.items) places.new.items }
 {
-    // all room is asked for before anything is put in
+    // all room is reserved before anything is inserted
     targets.reserve(1)?;
     places.insert(gap, targets.len())?;
     Ok(targets.push(target)?)
 }
 
-/// Lets the oldest targets go that are too many.
+/// Drops the oldest targets that are too many.
 pub fn keep_newest(targets: &mut Vec<Target>, places: &mut Vec<usize>, most: usize)
     requires { IsIndex (query_names targets.old.items) places.old.items }
     ensures items { targets.new.items ≡ newest most targets.old.items }
@@ -81,7 +81,7 @@ fn drop_first(targets: &mut Vec<Target>, many: usize)
     targets.drain(..many);
 }
 
-// Without the places of as many targets, which went in front.
+// Removes the places of the first targets, which were dropped, and lowers the others.
 fn drop_places(places: &mut Vec<usize>, many: usize)
     ensures { places.new.items ≡ lowered many places.old.items }
 {

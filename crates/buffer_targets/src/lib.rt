@@ -1,6 +1,6 @@
-//! The channels and the queries of a bouncer, each with its last lines, found by folded name.
-//! Stands under buffer_machine and buffer_cases.
-//! Promises that what is done to one target is done to no other, and that past the most queries the oldest goes.
+//! The channels and the queries of a bouncer, each with its last lines, found by folded name. Used by buffer_machine
+//! and buffer_cases. Promises that a change of one target changes no other, and that past the most queries the oldest
+//! is dropped.
 #![tactic(auto)]
 
 mod channel;

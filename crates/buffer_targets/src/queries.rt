@@ -12,7 +12,8 @@ use irc_line::Name;
 use std::alloc::{AllocError, Global};
 use std::marker::Model;
 
-/// Queries in order of making, found by name, in any spelling of it. Bytes that are no query's name find nothing.
+/// Queries in the order in which they were made, found by name in any letter case. Bytes that are no query's name find
+/// nothing.
 #[derive(Drop)]
 pub struct Queries {
     targets: Vec<Target>,
@@ -44,7 +45,7 @@ impl Queries {
         }
     }
 
-    /// In order of making.
+    /// In the order in which they were made.
     pub fn as_slice(&self) -> &[Target]
         ensures all { result.now ≡ self.now }
         ensures different { IsTrue (are_different (query_names self.now)) }
@@ -92,7 +93,7 @@ impl Queries {
         clear_each(self.targets.as_mut_slice());
     }
 
-    /// Notes of the query of a name that those readers who are here have seen all that is kept.
+    /// Notes that the readers who are here have seen all that is kept of a name's query.
     pub fn see_at(&mut self, name: &[u8], here: &[bool])
         ensures { self.new ≡ at_query (fold_name name.now) (seen_all here.now) self.old }
     {
@@ -102,17 +103,16 @@ impl Queries {
         }
     }
 
-    /// Notes of all queries that those readers who are here have seen all that is kept.
+    /// Notes that the readers who are here have seen all that is kept of all queries.
     pub fn see_all(&mut self, here: &[bool])
         ensures { self.new ≡ map (seen_all here.now) self.old }
     {
         see_each(self.targets.as_mut_slice(), here);
     }
 
-    /// Keeps one line more in the query of this name, which is made where there is none of its key, with so many lines to keep;
-    /// those readers see it who are here.
-    /// Past the most queries that there may be, the oldest made goes. After an error, of memory for a query that is made, nothing
-    /// has changed, and the line is lost.
+    /// Adds a line to the query of this name, which is made with this size if none has its key; the readers who are
+    /// here see it. Past the most queries allowed, the one made first is dropped. The only error is a lack of memory
+    /// for a new query: then nothing has changed, and the line is lost.
     pub fn store(
         &mut self,
         name: &Name,

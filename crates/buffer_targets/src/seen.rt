@@ -3,7 +3,7 @@ ghost use Rattle.buffer_targets.specs.Targets.{counted, counted_one, fewer, none
 
 use std::marker::Model;
 
-/// At most so many readers: each name that a client gives is one.
+/// The most readers: each name that a client gives is one.
 pub const READERS: usize = 64;
 
 /// How many of a target's lines each reader has seen, from the oldest on.
@@ -41,7 +41,7 @@ impl Seen {
         &self.counts
     }
 
-    /// How many a reader has seen; 0 of one that there may not be.
+    /// How many a reader has seen; 0 for a reader past the limit.
     pub fn of(&self, reader: usize) -> usize
         ensures { result ≡ slice_index self.now reader }
     {
@@ -51,18 +51,18 @@ impl Seen {
         }
     }
 
-    /// All lines went.
+    /// All lines were removed.
     pub fn clear(&mut self)
         ensures { self.new ≡ none_seen }
     {
-        // nothing is done where nobody has seen a line
+        // nothing to do while nobody has seen a line
         if self.is_any {
             self.counts = [0; READERS];
             self.is_any = false;
         }
     }
 
-    /// So many of the oldest lines went.
+    /// This many of the oldest lines were dropped.
     pub fn lose(&mut self, gone: usize)
         ensures { self.new ≡ fewer gone self.old }
     {
@@ -71,7 +71,8 @@ impl Seen {
         }
     }
 
-    /// So many of the oldest lines went, and those readers who are here see all that there are now.
+    /// This many of the oldest lines were dropped, and the readers who are here have seen all that
+    /// there are now.
     pub fn note(&mut self, all: usize, gone: usize, here: &[bool])
         ensures { self.new ≡ counted all gone here.now self.old }
     {
@@ -100,14 +101,14 @@ fn count(counts: &mut [usize], all: usize, gone: usize, here: &[bool])
     }
 }
 
-/// Whether a reader is here, if that is told.
+/// Whether a reader is here, if that is known.
 fn flag_at(here: &[bool], place: usize) -> Option<bool>
     ensures { result ≡ slice_get here.now place }
 {
     here.get(place).copied()
 }
 
-/// How many a reader has seen of all, by whether it is here, if that is told.
+/// How many of all lines a reader has seen, by whether it is here, if that is known.
 fn count_of(before: usize, all: usize, gone: usize, is_here: Option<bool>) -> usize
     ensures { result ≡ counted_one all gone is_here before }
 {

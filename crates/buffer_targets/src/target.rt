@@ -49,7 +49,7 @@ impl Target {
         compare_names(self.name.as_bytes(), name)
     }
 
-    /// The spelling under which the target was made.
+    /// The name as given when the target was made.
     pub fn name(&self) -> &Name
         ensures { result.now ≡ self.now.name }
     {
@@ -69,7 +69,7 @@ impl Target {
         self.seen.counts()
     }
 
-    /// Lets all lines go.
+    /// Removes all lines.
     pub(crate) fn clear(&mut self)
         ensures { self.new ≡ cleared self.old }
     {
@@ -77,7 +77,7 @@ impl Target {
         self.seen.clear();
     }
 
-    /// Keeps at most so many lines from now on. A refused call changes nothing.
+    /// Keeps at most this many lines from now on. A refused call changes nothing.
     pub(crate) fn resize(&mut self, size: usize) -> Result<(), AllocError>
         ensures ok { OnOk result (self.new ≡ resized size self.old) }
         ensures err { OnErr result (self.new ≡ self.old) }
@@ -89,7 +89,7 @@ impl Target {
         Ok(())
     }
 
-    /// Keeps one line more, which those readers see who are here: one or none for each.
+    /// Adds a line. `here` says for each reader whether it is here and sees the line; it may be empty.
     pub(crate) fn push(&mut self, line: KeptLine, here: &[bool])
         ensures { self.new ≡ pushed line here.now self.old }
     {
@@ -100,14 +100,15 @@ impl Target {
             .note(all, before.saturating_add(1).saturating_sub(all), here);
     }
 
-    /// Notes that those readers who are here have seen all that is kept.
+    /// Notes that the readers who are here have seen all that is kept.
     pub(crate) fn see(&mut self, here: &[bool])
         ensures { self.new ≡ seen_all here.now self.old }
     {
         self.seen.note(self.lines.count(), 0, here);
     }
 
-    /// What is kept that a reader has not seen, with its times, between the two frame lines; nothing where it has seen all.
+    /// The kept lines that a reader has not seen, with their times, between the two frame lines; nothing where it has
+    /// seen all.
     pub fn play_unseen(&self, reader: usize, offset: Offset) -> Result<Vec<Shown>, AllocError>
         ensures { IfOk result (λ v. v.items ≡
             shown_framed offset self.now.name (unseen_of reader self.now)) }

@@ -13,14 +13,14 @@ use Rattle.jiff_core.proofs.DateLemmas.{civil}
 use Rattle.chat_log.specs.Moments.{Day, day, day_after}
 use lib.IntN.{nat_abs}
 
--- a day of the calendar from 1970 on, so many days after its first
+-- a day of the calendar from 1970 on, this many days after its first
 pub record IsCounted (n : ℕ) (t : Day) : Type 0 where
   pub year : 1970 ≤ t.year
   pub month : (1 ≤ t.month) × (t.month ≤ 12)
   pub day : (1 ≤ t.day) × (t.day ≤ days_in_month (pos t.year) t.month)
   pub count : day_count (pos t.year) t.month t.day ≡ 4371953 + n
 
--- the first of the next month or year, by whether there is a month more
+-- the first day of the next month or year, by whether the year has one more month
 beyond : (n : ℕ) (t : Day) → IsCounted n t → t.day ≡ days_in_month (pos t.year) t.month → (b : Bool) → nat_lt t.month 12 ≡ b
     → IsCounted (suc n) (if b then day t.year (t.month + 1) 1 else day (t.year + 1) 1 1)
 beyond n t h last true e =
@@ -43,7 +43,7 @@ beyond n t h last false e =
       count = omega (arith, now, day_count-next_year (pos t.year) (pos (t.year + 1)) low next, day_count-last_of_year (pos t.year));
     }
 
--- the day after, by whether its month has a day more
+-- the next day, by whether its month has one more day
 within : (n : ℕ) (t : Day) → IsCounted n t → (b : Bool) → nat_lt t.day (days_in_month (pos t.year) t.month) ≡ b
     → IsCounted (suc n) (if b then day t.year t.month (t.day + 1) else (if nat_lt t.month 12 then day t.year (t.month + 1) 1 else day (t.year + 1) 1 1))
 within n t h true e =
@@ -61,7 +61,7 @@ unfolding day_after
 counted zero = record { year = omega arith; month = (omega arith, omega arith); day = (omega arith, omega (arith, days_in_month_bounds (pos 1970) 1)); count = omega (arith, day_count-epoch) }
 counted (suc n) = within n (day_after n) (counted n) _ refl
 
--- a date of the same number of days has the year, month and day of this one
+-- a date with the same number of days has the year, month and day of this one
 pub record IsSameDay (x : Date) (t : Day) : Type 0 where
   pub year : x.year ≡ pos t.year
   pub month : x.month ≡ t.month
@@ -80,7 +80,7 @@ same_month x n t h e year =
           record { year = year; month = month; day = omega (arith, at, h.count, day_count-day (pos t.year) t.month x.day t.day x.day_in.0 h.day.0) }
     ]
 
--- the date of a day number is the day so many days after the first
+-- the date of a day number is the day this many days after the first
 pub same_day : (x : Date) (n : ℕ) → epoch_day x ≡ pos n → IsSameDay x (day_after n)
 same_day x n e =
     let t : Day = day_after n in
@@ -91,7 +91,7 @@ same_day x n e =
     (λ gt. absurd (omega (arith, now, h.count, day_count-lt_year (pos t.year) t.month t.day x.year x.month x.day ((omega (arith, signed_arith), omega (arith, signed_arith, gt, x.year_in)), h.month, h.day) x.day_in.0 gt)))
     (λ le. same_month x n t h now (omega (arith, signed_arith, ge, le))))
 
--- the day and the second of the day of a civil time, where a moment gives it
+-- the day and the second of the day of a civil time, if it is that of a moment
 pub shown_at : (at t sub : ℕ) (day : ℤ) → t < 86400 → sub < 1000000000
     → day *ℤ pos 86400000000000 +ℤ pos (t * 1000000000 + sub) ≡ pos at *ℤ pos 1000000000
     → (day ≡ pos (at / 86400)) × (t ≡ at % 86400)

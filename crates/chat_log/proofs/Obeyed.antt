@@ -1,11 +1,11 @@
--- What is printed holds no control character.
+-- What is printed contains no control character.
 use Rattle.std.proofs.Common.{◌≡◌, ℕ, zero, suc, ◌<◌, Bool, true, false, nat_lt, List, [], ◌∷◌, ◌++◌, refl, sym, ap, subst, ◌∙◌, arith}
 use Rattle.std.specs.Prelude.{◌&&◌, ◌||◌, if◌then◌else◌, ◌==◌, nat_le, slice_index}
 use Rattle.std.proofs.lemmas.Bool.{and_parts, and_from, and_right, both_ways, false≢true}
 use Rattle.std.proofs.lemmas.Bool.Decides.{nat_tests}
 use Rattle.chat_log.specs.Controls.{begins_control, first_printed, has_control, has_control_behind, has_tail, is_control, is_tail_byte, may_follow, printed, printed_behind, tail_length, tail_wanted}
 
--- a first byte that wants no others
+-- a first byte that needs no others
 wants_none : (b : ℕ) → b < 194 → tail_wanted b ≡ 0
 wants_none b h = grind (arith, nat_tests)
 
@@ -16,7 +16,7 @@ if_none false w e = refl
 alone : (b : ℕ) (rest : List ℕ) → b < 194 → tail_length b rest ≡ 0
 alone b rest h = if_none (has_tail (tail_wanted b) rest && may_follow b (slice_index rest 0)) (tail_wanted b) (wants_none b h)
 
--- what begins a control character has no character behind it
+-- what begins a control character is not followed by a third byte
 no_third : (b c : ℕ) → (b == 194 && nat_le 128 c && nat_lt c 160) ≡ true → may_follow b c ≡ false
 no_third b c e = grind (arith, nat_tests)
 
@@ -24,7 +24,7 @@ begins_none : (b : ℕ) (rest : List ℕ) → begins_control b rest ≡ true →
 begins_none b [] e = absurd (false≢true e)
 begins_none b (c ∷ rest) e = rw (no_third b c e, and_right (has_tail (tail_wanted b) (c ∷ rest)) false refl) refl
 
--- the byte behind is a dot
+-- the byte is followed by a dot
 control_second : (b c : ℕ) → (b == 194 && nat_le 128 c && nat_lt c 160) ≡ true → is_control c ≡ true
 control_second b c e = grind (arith, nat_tests)
 
@@ -36,7 +36,7 @@ dot_next : (b : ℕ) (rest : List ℕ) → begins_control b rest ≡ true → sl
 dot_next b [] e = absurd (false≢true e)
 dot_next b (c ∷ rest) e = rw (not_first b c rest e, control_second b c e) refl
 
--- where what is printed begins with a byte that may follow another, so did the bytes
+-- if what is printed begins with a byte that may follow another, so did the bytes
 record Front (rest : List ℕ) : Type 0 where
   first : ℕ
   behind : List ℕ
@@ -80,7 +80,7 @@ tail_back (suc n) rest h =
 first_back : (rest : List ℕ) → is_tail_byte (slice_index (printed_behind 0 rest) 0) ≡ true → slice_index (printed_behind 0 rest) 0 ≡ slice_index rest 0
 first_back rest h = let f = front rest h in ap (λ t. slice_index t 0) f.kept ∙ ap (λ t. slice_index t 0) (sym f.is)
 
--- what belongs to a character is printed as it is
+-- bytes that belong to a character are printed as they are
 tail_kept : (n : ℕ) (rest : List ℕ) → has_tail n (printed_behind n rest) ≡ has_tail n rest
 tail_kept zero rest = refl
 tail_kept (suc n) [] = refl
@@ -90,7 +90,7 @@ second_kept : (n : ℕ) (rest : List ℕ) → slice_index (printed_behind (suc n
 second_kept n [] = refl
 second_kept n (b ∷ rest) = refl
 
--- so a first byte that stays has as many behind it as before
+-- a first byte that stays is therefore followed by as many bytes as before
 unfit : (k b : ℕ) (rest : List ℕ) → (has_tail (suc k) rest && may_follow b (slice_index rest 0)) ≡ false → (h : Bool) → (has_tail (suc k) (printed_behind 0 rest) && may_follow b (slice_index (printed_behind 0 rest) 0)) ≡ h → h ≡ false
 unfit k b rest e false h = refl
 unfit k b rest e true h =

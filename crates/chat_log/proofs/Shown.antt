@@ -13,7 +13,7 @@ pub nothing_shown : (e : Extent) → shown_text e [] ≡ []
 nothing_shown Chat = refl
 nothing_shown All = refl
 
--- one line, where it is wanted and within the extent
+-- one line, if it is wanted and within the extent
 one_by : (e : Extent) (at : ℕ) (line : Parts) (shows : Bool) → is_shown e line ≡ shows → shown_text e ((at, line) ∷ []) ≡ (if shows then line_text at line else [])
 one_by Chat at line true h = rw h (append-nil (line_text at line))
 one_by Chat at line false h = rw h refl
@@ -28,7 +28,7 @@ pub one_shown : (e : Extent) (target : Option (List ℕ)) (nick : List ℕ) (at 
     → shown_text e (told_line target nick at line) ≡ (if is_wanted target nick line && is_shown e line then line_text at line else [])
 one_shown e target nick at line = wanted_by e at line (is_wanted target nick line)
 
--- more lines have the text of theirs behind
+-- more lines, followed by their text
 pub shown_text-append : (e : Extent) (xs ys : List (ℕ × Parts)) → shown_text e (xs ++ ys) ≡ shown_text e xs ++ shown_text e ys
 shown_text-append Chat xs ys = ap text_of (filter-append (λ k. is_chat k.1) xs ys) ∙ flat_map-append (λ k. line_text k.0 k.1) (filter (λ k. is_chat k.1) xs) (filter (λ k. is_chat k.1) ys)
 shown_text-append All xs ys = flat_map-append (λ k. line_text k.0 k.1) xs ys

@@ -1,4 +1,4 @@
--- The chat of what a journal stands for.
+-- The chat of the state that a journal stands for.
 use Rattle.std.proofs.Common.{◌≡◌, ℕ, List, map, Option, Result, Ok, ap, sym, ◌∙◌}
 use Rattle.raft_log.specs.declared.entry.Entry.{Entry}
 use Rattle.stable_store.specs.declared.saved.Saved.{Saved}

@@ -1,4 +1,4 @@
--- The chat of what a file stands for.
+-- The chat of the state that a file stands for.
 use Rattle.std.specs.Prelude.{ℕ, List, map, Option, Result, Ok, Err}
 use Rattle.machine_laws.specs.Runs.{run}
 use Rattle.stable_store.specs.declared.saved.Saved.{Saved}
@@ -14,12 +14,12 @@ use Rattle.chat_log.specs.Chats.{chat_text}
 abbrev pub bodies : Saved TowerBody → List TowerBody
 bodies saved = map (λ e. e.body) saved.log
 
--- the commands of the buffers that these bodies give at the places from 1 on, the newest first; what is repeated, and
+-- the commands of the buffers that these bodies give at the places from 1 on, the newest first; repeated bodies, and
 -- lines of sessions that are over, give none
 abbrev pub plain_commands : List TowerBody → List Command
 plain_commands list = commands (plain (run list))
 
--- the chat of what a file stands for, or why the file is refused
+-- the chat of the state that a file stands for, or why the file is refused
 unfoldable pub chat_of : Extent → Option (List ℕ) → Result (Saved TowerBody) StoreFault
     → Result (List ℕ) StoreFault
 chat_of extent target (Ok saved) =

@@ -9,7 +9,7 @@ use Rattle.chat_log.specs.declared.chat.Chat.{Chat}
 use Rattle.chat_log.specs.declared.setup.ChatSetup.{ChatSetup}
 use Rattle.chat_log.specs.declared.setup.Silence.{Silence}
 
--- the buffers stand after the history, the text is that of its commands, and no memory was wanting
+-- the buffers stand after the history, the text is that of its commands, and memory never ran out
 pub record Stands (m : Chat) (s : ChatSetup) (history : History Command) : Type 0 where
   pub choice : m.choice ≡ s.choice
   pub buffers : buffers.Stands m.buffers s.buffers history

@@ -13,7 +13,7 @@ pub record Day : Type 0 where
 abbrev pub day : ℕ → ℕ → ℕ → Day
 day y m d = record { year = y; month = m; day = d }
 
--- the day after: the next of its month, the first of the next month, or the first of the next year
+-- the next day: in the same month, the first of the next month, or the first of the next year
 abbrev pub next_day : Day → Day
 next_day t =
     if nat_lt t.day (days_in_month (pos t.year) t.month)
@@ -21,7 +21,7 @@ next_day t =
     else
     if nat_lt t.month 12 then day t.year (t.month + 1) 1 else day (t.year + 1) 1 1
 
--- the day so many days after 1 January 1970
+-- the day this many days after 1 January 1970
 unfoldable pub day_after : ℕ → Day
 day_after zero = day 1970 1 1
 day_after (suc n) = next_day (day_after n)
@@ -40,10 +40,10 @@ time_text second =
     two_digits (second / 3600)
     ++ 58 ∷ (two_digits (second / 60 % 60) ++ 58 ∷ two_digits (second % 60))
 
--- the date of a day and a time of day, a space behind each
+-- the date of a day and a time of day, a space after each
 abbrev pub stamp_of : Day → ℕ → List ℕ
 stamp_of t second = date_text t.year t.month t.day ++ 32 ∷ (time_text second ++ 32 ∷ [])
 
--- the date and the time of day of a moment, a space behind each
+-- the date and the time of day of a moment, a space after each
 unfoldable pub stamp : ℕ → List ℕ
 stamp at = stamp_of (day_after (at / 86400)) (at % 86400)

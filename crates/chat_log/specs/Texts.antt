@@ -1,4 +1,4 @@
--- What is printed of one line.
+-- How one line is printed.
 use Rattle.std.specs.Prelude.{ℕ, Bool, ◌&&◌, if◌then◌else◌, ◌==◌, List, [], ◌∷◌, ◌++◌, drop, flat_map, length, is_some, codes}
 use Rattle.irc_line.specs.Names.{action_mark, begins_with}
 use Rattle.irc_line.specs.Lines.{Parts, parameter, spelling}
@@ -12,7 +12,7 @@ without_mark [] = []
 without_mark (b ∷ []) = if b == 1 then [] else b ∷ []
 without_mark (b ∷ c ∷ s) = b ∷ without_mark (c ∷ s)
 
--- a message of somebody, with a target and a text
+-- a message with a source, a target and a text
 abbrev pub is_speech : Parts → Bool
 is_speech line = is_some line.prefix && is_message line && length line.parameters == 2
 
@@ -36,14 +36,14 @@ speech line =
     else
     if begins_with (parameter 1 line) action_mark then acted line else said line
 
--- a message as its target and who says what; any other line by its canonical spelling
+-- a message as its target and who says what; any other line as its canonical spelling
 abbrev pub content : Parts → List ℕ
 content line = if is_speech line then parameter 0 line ++ 32 ∷ speech line else spelling line
 
--- a line of a moment, as a line of text
+-- a line at a moment, as a line of text
 unfoldable pub line_text : ℕ → Parts → List ℕ
 line_text at line = stamp at ++ (printed (content line) ++ 10 ∷ [])
 
--- lines of moments, as text
+-- lines at their moments, as text
 abbrev pub text_of : List (ℕ × Parts) → List ℕ
 text_of lines = flat_map (λ k. line_text k.0 k.1) lines

@@ -1,4 +1,4 @@
-//! The machine that writes the chat down.
+//! The machine that writes down the chat.
 ghost use Rattle.std.specs.Prelude.{◌≡◌, ◌↔◌, ◌∷◌, None, false, IfErr, IfOk, IsErr, IsTrue, OnErr, OnOk};
 ghost use Rattle.machine_laws.specs.Runs.{History};
 ghost use Rattle.buffer_machine.specs.Held.{commands};
@@ -87,7 +87,7 @@ impl Machine for Chat {
     ghost stands_whole = { λ m s history h. h.whole };
 }
 
-/// Tells of a command, by the buffers before it, and applies it to them.
+/// Prints a command, given the buffers before it, and applies it to them.
 fn step(
     alloc: Global,
     text: &mut Vec<u8>,
@@ -105,7 +105,7 @@ fn step(
         → OnOk result (text.new.items ≡ chat_text s choice.now.extent choice.now.target
         (commands ((place, command.now) ∷ history))) }
 {
-    // what is told goes by what stood before
+    // what is printed depends on the state before
     push_told(alloc, text, buffers, choice, command)?;
     buffers.apply(place, command)?;
     Ok(())

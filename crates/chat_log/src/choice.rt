@@ -1,4 +1,4 @@
-//! Which lines are told.
+//! Which lines are printed.
 ghost use Rattle.std.specs.Prelude.{◌≡◌, IfOk};
 ghost use Rattle.chat_log.specs.Chats.{is_chat, is_shown};
 
@@ -7,17 +7,17 @@ use irc_line::{Line, Name};
 use std::alloc::{AllocError, Global};
 use wire_bytes::Copied;
 
-/// Which commands' lines are told.
+/// Which commands' lines are printed.
 #[derive(Clone, Copy, Debug, Drop, PartialEq, Eq)]
 pub enum Extent {
     /// What people say and do: messages, notices, joins, parts, quits, kicks, nicks, topics and modes.
     Chat,
-    /// That, and what else the server says.
+    /// That, and all other lines of the server.
     All,
 }
 
 impl Extent {
-    /// Whether it has a line.
+    /// Whether a line is within it.
     pub fn has(self, line: &Line) -> bool
         ensures { result ≡ is_shown self line.now }
     {
@@ -28,7 +28,7 @@ impl Extent {
     }
 }
 
-/// Which lines are told: those of an extent that concern a target; without a target all of that extent.
+/// Which lines are printed: those of an extent that concern a target; without a target all of that extent.
 #[derive(Drop)]
 pub struct Choice {
     pub extent: Extent,

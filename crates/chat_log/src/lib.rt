@@ -1,7 +1,7 @@
-//! The chat that a node's journal holds, as text: one line for each line from upstream and for what clients said.
-//! Stands under bouncer_app.
-//! Promises that the text is the definition's of the commands that the journal's entries come to, each told once; that
-//! without all that the server says it is the lines of the chat among these; and that no control character is printed.
+//! The chat in a node's journal, as text: one line for each line from upstream and for what clients said. Used by
+//! bouncer_app. Promises that the text is the definition's for the commands that the journal's entries give, each
+//! printed once; that without the server's other lines it is the lines of the chat among these; and that no control
+//! character is printed.
 #![tactic(auto)]
 
 mod chat;

@@ -30,12 +30,12 @@ use std::alloc::{AllocError, Global};
 use upstream_claim::Claims;
 use wire_bytes::{Number, Wire};
 
-/// The layers of the tower over the chat: requests take effect once, lines are taken of the session in force.
+/// The layers of the tower over the chat: requests take effect once, and lines are taken from the session in force.
 type Told = Once<Claims<Fence<Chat>>>;
 
-/// The text of a journal's chat, the oldest line first: of the lines of an extent all, or those that concern a target.
-/// The setup of the bouncer is not known: the own nick is `me` until the server's welcome, and any number of clients may
-/// be attached. What a terminal would obey is a dot.
+/// The text of a journal's chat, the oldest line first: all lines of an extent, or those that concern a target. The
+/// setup of the bouncer is not known: the own nick is `me` until the server's welcome, and any number of clients may be
+/// attached. What a terminal would obey is printed as a dot.
 #[tactic(auto, using(crate::proofs::Obeyed::nothing_is_obeyed, crate::proofs::Obeyed::text_stays))]
 pub fn chat_log(
     alloc: Global,
@@ -55,7 +55,7 @@ pub fn chat_log(
     Ok(text)
 }
 
-/// What a journal stands for.
+/// The state that a journal stands for.
 fn saved_in<B: Wire>(alloc: Global, journal: Vec<u8>) -> Result<Saved<B>, StoreFault>
     ensures found { IfOk result
         (λ s. found (payloads B.taken) nothing_saved journal.items ≡ Ok s) }
@@ -72,7 +72,7 @@ fn saved_in<B: Wire>(alloc: Global, journal: Vec<u8>) -> Result<Saved<B>, StoreF
     }
 }
 
-/// A refusal of what a disk in memory holds, which fails no call.
+/// Why a disk in memory, on which no call fails, is refused.
 fn refusal(fault: StoreFault) -> StoreFault
     ensures { result ≢ StoreFault.Memory → (result ≡ fault) × (fault ≢ StoreFault.Device) }
 {
@@ -82,7 +82,7 @@ fn refusal(fault: StoreFault) -> StoreFault
     }
 }
 
-/// The text of what a journal stands for.
+/// The text of the state that a journal stands for.
 #[tactic(auto, using(crate::proofs::Told::same_text))]
 fn text_of(
     alloc: Global,
@@ -115,7 +115,7 @@ fn setup_for(alloc: Global, extent: Extent, target: Option<&Name>) -> Result<Cha
     })
 }
 
-/// Applies the bodies of a log, the first at place 1, to layers to which nothing came, and copies the text.
+/// Applies the bodies of a log, the first at place 1, to layers with an empty history, and copies the text.
 fn tell(alloc: Global, layers: &mut Told, log: &Log<TowerBody>) -> Result<Vec<u8>, AllocError>
     ensures { (s : ChatSetup) → ⟦<Told as Machine>⟧.stands layers.old s []
         → IfOk result (λ v. v.items ≡ chat_text s.buffers s.choice.extent s.choice.target
@@ -139,8 +139,8 @@ fn copied_text(alloc: Global, layers: &Told) -> Result<Vec<u8>, AllocError>
     Ok(copy)
 }
 
-/// Applies the bodies of a log, the first at place 1, to a machine to which nothing came. After an error the machine
-/// is to be thrown away.
+/// Applies the bodies of a log, the first at place 1, to a machine with an empty history. After an error the machine is
+/// to be thrown away.
 #[tactic(auto, using(crate::proofs::Comes::run_more))]
 fn apply_all<M: Machine>(machine: &mut M, log: &Log<M::Command>) -> Result<(), ApplyFault>
     ensures { (s : M.Setup) → M.stands machine.old s []

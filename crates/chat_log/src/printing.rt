@@ -1,4 +1,4 @@
-//! Bytes as they are printed: what a terminal would obey is a dot.
+//! Bytes as they are printed: what a terminal would obey becomes a dot.
 ghost use Rattle.std.specs.Prelude.{◌≡◌, ◌++◌, OnOk};
 ghost use Rattle.chat_log.specs.Controls.{begins_control, first_printed, has_tail, is_control, is_tail_byte, may_follow, printed, tail_length, tail_wanted};
 
@@ -9,7 +9,7 @@ use std::alloc::AllocError;
 pub fn push_printed(out: &mut Vec<u8>, bytes: &[u8]) -> Result<(), AllocError>
     ensures { OnOk result (out.new.items ≡ out.old.items ++ printed bytes.now) }
 {
-    // of the character whose first byte was met, the bytes to come
+    // how many bytes of the current character are still to come
     let mut to_come = 0;
     let mut rest = bytes;
     while let [byte, behind @ ..] = rest {
@@ -25,7 +25,7 @@ pub fn push_printed(out: &mut Vec<u8>, bytes: &[u8]) -> Result<(), AllocError>
     Ok(())
 }
 
-/// Appends what is printed of a byte that stands behind none of its character. The dot of a control character of two bytes
+/// Appends what is printed for a byte that does not continue a character. The dot of a control character of two bytes
 /// is appended for the second.
 fn push_first(out: &mut Vec<u8>, first: u8, behind: &[u8]) -> Result<(), AllocError>
     ensures { OnOk result (out.new.items ≡ out.old.items ++ first_printed first behind.now) }
@@ -54,7 +54,7 @@ fn is_control(byte: u8) -> bool
     matches!(byte, 0..=0x1F | 0x7F..=0x9F)
 }
 
-/// How many bytes stand behind the first in a character that is no control character; none where there is no such character.
+/// How many bytes follow the first in a character that is no control character; none if there is no such character.
 fn tail_length(first: u8, behind: &[u8]) -> usize
     ensures { result ≡ tail_length first behind.now }
 {
@@ -65,7 +65,7 @@ fn tail_length(first: u8, behind: &[u8]) -> usize
     }
 }
 
-/// How many bytes the first of a character has behind it.
+/// How many bytes follow the first byte of a character.
 fn tail_wanted(first: u8) -> usize
     ensures { result ≡ tail_wanted first }
 {
@@ -77,7 +77,7 @@ fn tail_wanted(first: u8) -> usize
     }
 }
 
-/// Whether bytes begin with so many that may stand behind the first of a character.
+/// Whether bytes begin with this many that may follow the first byte of a character.
 fn has_tail(count: usize, bytes: &[u8]) -> bool
     ensures { result ≡ has_tail count bytes.now }
 {
@@ -94,7 +94,7 @@ fn is_tail_byte(byte: u8) -> bool
     matches!(byte, 0x80..=0xBF)
 }
 
-/// Whether this second byte may stand behind this first one, in a character that is no control character.
+/// Whether this second byte may follow this first one, in a character that is no control character.
 fn may_follow(first: u8, second: u8) -> bool
     ensures { result ≡ may_follow first second }
 {

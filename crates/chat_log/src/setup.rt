@@ -1,10 +1,10 @@
-//! What the chat is told from, and its effects, of which there are none.
+//! What the chat is printed from, and its effects, of which there are none.
 use crate::choice::Choice;
 use buffer_commands::Setup;
 use std::alloc::{AllocError, Global};
 use wire_bytes::Copied;
 
-/// The setup of the buffers, and which lines are told.
+/// The setup of the buffers, and which lines are printed.
 #[derive(Drop)]
 pub struct ChatSetup {
     pub buffers: Setup,
@@ -20,7 +20,7 @@ impl Copied for ChatSetup {
     }
 }
 
-/// What a command brings about: the text alone grows, so it is never made.
+/// The effect of a command: only the text grows, so none is ever made.
 #[derive(Clone, Copy)]
 pub struct Silence;
 

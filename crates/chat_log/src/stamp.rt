@@ -9,7 +9,7 @@ use jiff::{Timestamp, tz};
 use std::alloc::AllocError;
 use wire_bytes::Moment;
 
-/// Appends the date and the time of day of a moment, with a space behind each.
+/// Appends the date and the time of day of a moment, with a space after each.
 pub fn push_stamp(out: &mut Vec<u8>, at: Moment) -> Result<(), AllocError>
     ensures { OnOk result (out.new.items ≡ out.old.items ++ stamp at) }
 {

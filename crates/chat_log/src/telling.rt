@@ -1,4 +1,4 @@
-//! What is told of a command.
+//! What is printed for a command.
 ghost use Rattle.std.specs.Prelude.{◌≡◌, ◌++◌, ℕ, OnOk};
 ghost use Rattle.machine_laws.specs.Runs.{History};
 ghost use Rattle.buffer_commands.specs.Settings.{Settings};
@@ -16,7 +16,8 @@ use irc_line::{Line, Name, is_same_name};
 use std::alloc::{AllocError, Global};
 use wire_bytes::Moment;
 
-/// Appends what is told of a command, by the buffers before it. After an error a part of it may have been appended.
+/// Appends what is printed for a command, given the buffers before it. After an error a part of it may have been
+/// appended.
 #[tactic(auto, using(crate::proofs::Shown::nothing_shown))]
 pub fn push_told(
     alloc: Global,
@@ -45,7 +46,7 @@ pub fn push_told(
     }
 }
 
-/// Appends a line of a moment, where it is to be told.
+/// Appends a line at a moment, if it is to be printed.
 #[tactic(auto, using(crate::proofs::Shown::one_shown))]
 fn push_wanted(
     alloc: Global,
@@ -65,7 +66,7 @@ fn push_wanted(
     }
 }
 
-/// Whether a line is asked for: each is without a target, with one those that concern it.
+/// Whether a line is wanted: all lines are without a target, with one those that concern it.
 fn is_wanted(target: &Option<Name>, nick: &Name, line: &Line) -> bool
     ensures { result ≡ is_wanted target.now nick.now line.now }
 {
@@ -75,7 +76,7 @@ fn is_wanted(target: &Option<Name>, nick: &Name, line: &Line) -> bool
     }
 }
 
-/// Whether a line names a target as its channel or is said to it, or is of its query.
+/// Whether a line names a target as its channel, is said to it, or belongs to its query.
 fn concerns(target: &Name, nick: &Name, line: &Line) -> bool
     ensures { result ≡ concerns nick.now target.now line.now }
 {

@@ -1,4 +1,4 @@
-//! What is printed of one line.
+//! How one line is printed.
 ghost use Rattle.std.specs.Prelude.{◌≡◌, ◌++◌, ◌∷◌, [], drop, IfOk, OnOk};
 ghost use Rattle.chat_log.specs.Texts.{acted, content, is_speech, line_text, noticed};
 ghost use Rattle.chat_log.specs.Texts.{said, speech, without_mark};
@@ -10,7 +10,7 @@ use irc_line::{ACTION_MARK, Line, is_action};
 use std::alloc::{AllocError, Global};
 use wire_bytes::Moment;
 
-/// Appends a line of a moment, as a line of text. After an error a part of it may have been appended.
+/// Appends a line at a moment, as a line of text. After an error a part of it may have been appended.
 #[tactic(auto, unfolding(crate::specs::Texts::line_text))]
 pub fn push_line(
     alloc: Global,
@@ -27,7 +27,7 @@ pub fn push_line(
     Ok(())
 }
 
-/// What is told of a line: of a message its target and who says what, of any other its canonical spelling.
+/// What is printed of a line: for a message its target and who says what, for any other its canonical spelling.
 fn content_of(alloc: Global, line: &Line) -> Result<Vec<u8>, AllocError>
     ensures { IfOk result (λ v. v.items ≡ content line.now) }
 {
@@ -42,7 +42,7 @@ fn content_of(alloc: Global, line: &Line) -> Result<Vec<u8>, AllocError>
     Ok(out)
 }
 
-/// Whether a line is a message of somebody, with a target and a text.
+/// Whether a line is a message with a source, a target and a text.
 fn is_speech(line: &Line) -> bool
     ensures { result ≡ is_speech line.now }
 {
@@ -90,7 +90,7 @@ fn push_acted(out: &mut Vec<u8>, line: &Line) -> Result<(), AllocError>
     out.extend_from_slice(without_mark(deed))
 }
 
-/// What stands behind the mark of an ACTION.
+/// What follows the mark of an ACTION.
 fn behind_mark(text: &[u8]) -> &[u8]
     ensures { result.now ≡ drop 8 text.now }
 {

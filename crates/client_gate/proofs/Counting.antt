@@ -1,4 +1,4 @@
--- A call counts each request that it numbers among those that wait.
+-- A call counts each request that it numbers as one that waits.
 use Rattle.std.proofs.Common.{◌≡◌, ℕ, ◌+◌, Bool, true, false, List, [], ◌∷◌, length, refl, arith, length-append}
 use Rattle.std.specs.Prelude.{if◌then◌else◌}
 use Rattle.irc_line.specs.declared.item.Item.{Item}
@@ -58,7 +58,7 @@ counts_all_fed s p [] = same p
 counts_all_fed s p (item ∷ items) =
     next p (fed s p item) (all_fed s (fed s p item) items) (counts_fed s p item) (counts_all_fed s (fed s p item) items)
 
--- from a call's beginning on
+-- from the beginning of a call on
 pub all_wait : (s : Settings) (p : Progress) (items : List Item) → p.requests ≡ [] → (all_fed s p items).waiting ≡ p.waiting + length (all_fed s p items).requests
 unfolding Counts
 all_wait s p items none = let e = counts_all_fed s p items in let f : length p.requests ≡ 0 = rw none refl in omega (arith, e, f)

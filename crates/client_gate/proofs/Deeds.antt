@@ -1,4 +1,4 @@
--- Deeds done one behind the other.
+-- Deeds done one after the other.
 use Rattle.std.proofs.Common.{◌≡◌, ℕ, List, [], ◌∷◌, ◌++◌, refl}
 use Rattle.client_gate.specs.Turns.{Deed, Progress, done, all_done}
 

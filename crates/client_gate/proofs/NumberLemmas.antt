@@ -19,7 +19,7 @@ use Rattle.client_gate.specs.Gates.{Gate, Given, GateEffect, after_effect, after
 use Rattle.client_gate.specs.Calls.{Call, Feed, Hear, End, Refused, fed_answer, gate, items_brought}
 use Rattle.client_gate.specs.Numbers.{AreNumberedFrom, all_requests}
 
--- more requests behind
+-- followed by more requests
 are_more : (n : ℕ) (xs ys : List Request) → AreNumberedFrom n xs → AreNumberedFrom (n + length xs) ys → AreNumberedFrom n (xs ++ ys)
 are_more n [] ys h i = let e : n + 0 ≡ n = omega arith in subst (λ (k : ℕ). AreNumberedFrom k ys) e i
 are_more n (x ∷ xs) ys h i =
@@ -30,7 +30,7 @@ are_more n (x ∷ xs) ys h i =
 are_one_more : (n k : ℕ) (xs : List Request) (a : Action) → AreNumberedFrom n xs → k ≡ n + length xs → AreNumberedFrom n (xs ++ request k a ∷ [])
 are_one_more n k xs a h e = are_more n xs (request k a ∷ []) h (e, tt)
 
--- a call that began behind the number m has numbered its requests from there on
+-- a call that began after the number m has numbered its requests from there on
 record Counted (m : ℕ) (p : Progress) : Type 0 where
   count : p.numbered ≡ m + length p.requests
   are : AreNumberedFrom (m + 1) p.requests
@@ -73,14 +73,14 @@ unfolding all_fed
 counted_all_fed m s p [] h = h
 counted_all_fed m s p (item ∷ items) h = counted_all_fed m s (fed s p item) items (counted_fed m s p item h)
 
--- What a call adds to the requests before it
+-- The requests that a call adds to those before it
 
 -- the requests so far are numbered from 1 on, and the gate knows the last number
 record Told (rs : List Request) (g : Gate) : Type 0 where
   count : g.numbered ≡ length rs
   are : AreNumberedFrom 1 rs
 
--- and those that a call adds follow
+-- and those that a call adds follow them
 record Adds (g : Gate) (more : List Request) (new : Gate) : Type 0 where
   count : new.numbered ≡ g.numbered + length more
   are : AreNumberedFrom (g.numbered + 1) more

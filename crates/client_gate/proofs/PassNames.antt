@@ -1,4 +1,4 @@
--- A PASS that is cut at its marks.
+-- A PASS that is cut at its `@` and `:`.
 use Rattle.std.proofs.Common.{◌≡◌, ℕ, true, not, List, [], ◌∷◌, ◌++◌, refl, ap, ◌∙◌, arith}
 use Rattle.std.specs.Prelude.{◌==◌, MatchOption, Option, Some, None}
 use Rattle.std.proofs.lemmas.Bool.Decides.{nat_tests}
@@ -20,7 +20,7 @@ cut_one x (b ∷ s) rest h = rw (not_true (b == x) (and_left (not (b == x)) _ h)
 pub cut_at : (x : ℕ) (s piece behind : List ℕ) → IsCutAt x s piece behind → first_cut x s ≡ Some (piece, behind)
 cut_at x s piece behind h = ap (first_cut x) h.1 ∙ cut_one x piece behind h.0
 
--- what is so of either case, made weaker
+-- weaker conditions for both cases
 pub match_weaker : {A : Type 0} (r : Option A) (P R : Type 0) (Q S : A → Type 0) → (P → R) → ((a : A) → Q a → S a) → MatchOption r P Q → MatchOption r R S
 match_weaker None P R Q S f g h = f h
 match_weaker (Some a) P R Q S f g h = g a h

@@ -21,7 +21,7 @@ use Rattle.client_gate.proofs.Standing.{closed_says, closed_stays, first_of_two,
 
 -- What was answered before stays in front
 
--- a call that had answered before what this one did
+-- this call, with the answers of an earlier one put before its own
 abbrev behind : Progress → Progress → Progress
 behind f p = record p { requests = f.requests ++ p.requests; reply = f.reply ++ p.reply; words = f.words ++ p.words }
 
@@ -75,7 +75,7 @@ unfolding all_fed
 all_fed_append s p [] ys = refl
 all_fed_append s p (x ∷ xs) ys = all_fed_append s (fed s p x) xs ys
 
--- A call that closed, and one that did not
+-- The first call closed the gate, or it did not
 
 closed_fed : (s : Settings) (p : Progress) (item : Item) → p.close ≡ true → fed s p item ≡ p
 unfolding fed
@@ -87,7 +87,7 @@ closed_all_fed s p [] e = refl
 closed_all_fed s p (item ∷ items) e =
     ap (λ (q : Progress). all_fed s q items) (closed_fed s p item e) ∙ closed_all_fed s p items e
 
--- where a call has come, of these parts
+-- the progress of a call, from these parts
 of_parts : Progress → ℕ → List Request → List ℕ → List StatusWord → Bool → Progress
 of_parts p n r w t c = record p { waiting = n; requests = r; reply = w; words = t; close = c }
 
@@ -109,7 +109,7 @@ open_takes s g xs e = sym (second_of_two g.closed g _ e)
 open_says : (s : Settings) (g : Gate) (xs : List Item) → g.closed ≡ false → given_items s g xs ≡ given (all_fed s (begun g) xs)
 open_says s g xs e = sym (second_of_two g.closed nothing _ e)
 
--- what the second piece makes of a gate that the first left open
+-- what the second piece does to a gate that the first left open
 second_kept : (s : Settings) (g : Gate) (p : Progress) (ys : List Item) → p.waiting ≡ length g.waiting + length p.requests → p.close ≡ false → all_fed s p ys ≡ behind p (all_fed s (begun (kept g p)) ys)
 second_kept s g p ys n c =
     ap (λ (q : Progress). all_fed s q ys) (goes_on g p n c) ∙ behind_all_fed p s (begun (kept g p)) ys
@@ -131,9 +131,9 @@ joined_nothing a =
 given_behind : (p q : Progress) → p.close ≡ false → joined (given p) (given q) ≡ given (behind p q)
 given_behind p q c = ap (λ (b : Bool). record { requests = p.requests ++ q.requests; reply = p.reply ++ q.reply; words = p.words ++ q.words; close = b || q.close }) c
 
--- Two pieces for one gate
+-- Two pieces fed to one gate
 
--- the gate and the answers are those of both at once
+-- the gate and the answers are the same as when both are fed at once
 record Alike (s : Settings) (g : Gate) (xs ys : List Item) : Type 0 where
   after : after_items s (after_items s g xs) ys ≡ after_items s g (xs ++ ys)
   said : joined (given_items s g xs) (given_items s (after_items s g xs) ys) ≡ given_items s g (xs ++ ys)

@@ -40,7 +40,7 @@ some_by s m n false e h = cc
 is_it : (x b : ℕ) → (b == x) ≡ true → b ≡ x
 is_it x b e = grind (arith, nat_tests)
 
--- the place of the first separator cuts there
+-- the place of the first separator is where to cut
 pub at_place : (x : ℕ) (s : List ℕ) (n : ℕ) → position (λ b. b == x) s ≡ Some n → (n < length s) × IsCutAt x s (take n s) (drop (n + 1) s)
 at_place x s n h =
     let m = position_or_len (λ b. b == x) s in
@@ -54,7 +54,7 @@ none_by : (s : List ℕ) (m : ℕ) (t : Bool) → nat_lt m (length s) ≡ t → 
 none_by s m true e h = cc
 none_by s m false e h = grind (arith, nat_tests)
 
--- with no place there is no separator
+-- if there is no such place, there is no separator
 pub no_place : (x : ℕ) (s : List ℕ) → position (λ b. b == x) s ≡ None → HasNone x s
 no_place x s h =
     let m = position_or_len (λ b. b == x) s in
@@ -66,6 +66,6 @@ pub one_piece_more : (x : ℕ) (before : List (List ℕ)) (rest piece behind : L
 one_piece_more x before rest piece behind whole cut all =
     append_assoc before (piece ∷ []) (pieces x behind) ∙ ap (λ t. before ++ t) (sym (ap (pieces x) cut.1 ∙ pieces_one x piece behind cut.0)) ∙ all
 
--- the last piece is what is left
+-- the last piece is the rest
 pub last_piece : (x : ℕ) (before : List (List ℕ)) (rest : List ℕ) (whole : List (List ℕ)) → HasNone x rest → before ++ pieces x rest ≡ whole → before ++ rest ∷ [] ≡ whole
 last_piece x before rest whole none all = ap (λ t. before ++ t) (sym (pieces_none x rest none)) ∙ all

@@ -1,4 +1,4 @@
--- A gate stands where its calls lead.
+-- A gate is in the state to which its calls lead.
 use Rattle.std.proofs.Common.{◌≡◌, ℕ, Bool, true, false, List, [], ◌∷◌, ◌++◌, length, drop, refl, ap, sym, subst, ◌∙◌}
 use Rattle.std.specs.Prelude.{if◌then◌else◌}
 use Rattle.std.proofs.Math.Seq.{drop-append_seam}
@@ -17,7 +17,7 @@ use Rattle.client_gate.specs.declared.phase.Phase.TheVariants.{Arriving, Attache
 use Rattle.client_gate.specs.Gates.{Gate, Given, GateEffect, after_effect, after_end, after_items, answered, ended, fresh, given_items, nothing, shut}
 use Rattle.client_gate.specs.Calls.{Call, Feed, Hear, End, Refused, Held, KeepsGate, Stands, Takes, all_bytes, fed_answer, gate, items_brought}
 
--- what is behind a list's front
+-- what follows the front of a list
 behind_front : (a b whole : List Item) → a ++ b ≡ whole → b ≡ drop (length a) whole
 behind_front a b whole e = sym (drop-append_seam a b) ∙ ap (drop (length a)) e
 
@@ -35,7 +35,7 @@ pub second_of_two : {A : Type 0} (b : Bool) (x y : A) → b ≡ false → y ≡ 
 second_of_two true x y e = cc
 second_of_two false x y e = refl
 
--- a closed gate is left as it is
+-- a closed gate does not change
 pub closed_stays : (s : Settings) (g : Gate) (got : List Item) → g.closed ≡ true → after_items s g got ≡ g
 closed_stays s g got e = sym (first_of_two g.closed g _ e)
 
@@ -43,7 +43,7 @@ closed_stays s g got e = sym (first_of_two g.closed g _ e)
 pub closed_says : (s : Settings) (g : Gate) (got : List Item) → g.closed ≡ true → nothing ≡ given_items s g got
 closed_says s g got e = first_of_two g.closed nothing _ e
 
--- no closed gate is open
+-- no gate is both closed and open
 not_both : (b : Bool) → b ≡ true → b ≡ false → ⊥
 not_both b t f = cc
 
@@ -61,7 +61,7 @@ unfolding fed_answer
 closed_answer s calls h bytes closed st =
     closed_says s (gate s calls) (items_brought calls bytes) (ap (λ (g : Gate). g.closed) (sym st.led) ∙ closed)
 
--- the items that were got are those that the bytes brought
+-- the items that were received are those that the bytes brought
 got_is : (s : Settings) (calls : List Call) (old new : Held) (bytes : List ℕ) (fed : Given) → old.gate.closed ≡ false → Stands s calls old → (t : Takes old bytes fed new) → t.got ≡ items_brought calls bytes
 got_is s calls old new bytes fed was_open st t =
     behind_front (items (all_bytes calls)) t.got (items (all_bytes calls ++ bytes)) (t.brings (all_bytes calls) (st.split was_open))
@@ -86,7 +86,7 @@ takes_answer s calls old new bytes fed was_open st t =
 true_false : (b : Bool) → b ≡ true → b ≡ false → ⊥
 true_false b t f = cc
 
--- a call that found no memory closes the gate
+-- a call that runs out of memory closes the gate
 pub refused_stands : (s : Settings) (calls : List Call) (old kept new : Held) → Stands s calls old → KeepsGate old kept → new ≡ record kept { gate = shut kept.gate } → Stands s (Refused ∷ calls) new
 unfolding gate
 refused_stands s calls old kept new st k e =

@@ -1,4 +1,4 @@
--- The commands of a client, and how many parameters each has at least.
+-- The commands of a client, and the fewest parameters of each.
 use Rattle.std.specs.Prelude.{ℕ, Bool, true, false, ◌&&◌, ◌||◌, if◌then◌else◌, ◌==◌, nat_lt, List, length, None, codes}
 use Rattle.irc_line.specs.Names.{same_bytes}
 use Rattle.irc_line.specs.Lines.{Parts, parameter}
@@ -37,7 +37,7 @@ fewest Kick = 2
 fewest User = 4
 fewest _ = 0
 
--- a message, whose text may not be empty
+-- it is a message, whose text may not be empty
 abbrev pub has_text : ClientCommand → Bool
 has_text Privmsg = true
 has_text Notice = true

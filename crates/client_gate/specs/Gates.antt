@@ -1,4 +1,4 @@
--- What a gate is between calls, and what each call makes of it and answers.
+-- The state of a gate between calls, and what each call does to it and answers.
 use Rattle.std.specs.Prelude.{ℕ, ◌+◌, Bool, true, false, ◌&&◌, if◌then◌else◌, nat_le, List, [], ◌∷◌, ◌++◌, length, Option, Some, None, codes, ⊤}
 use Rattle.machine_laws.specs.Origins.{same_origin}
 use Rattle.irc_line.specs.declared.item.Item.{Item}
@@ -27,54 +27,54 @@ pub record Gate : Type 0 where
   pub numbered : ℕ
   pub closed : Bool
 
--- what a call answers: the requests that it numbered, the bytes that it writes, the words to the bouncer that ask for nothing, and
--- whether it closes
+-- what a call answers: the requests that it numbered, the bytes that it writes, the words to the bouncer that make no
+-- request, and whether it closes
 pub record Given : Type 0 where
   pub requests : List Request
   pub reply : List ℕ
   pub words : List StatusWord
   pub close : Bool
 
--- a gate that nothing came to
+-- a gate to which nothing came
 abbrev pub fresh : Gate
 fresh =
     record { phase = Arriving (record { password = None; nick = false; user = false }); waiting = []; numbered = 0; closed = false }
 
--- the password of a client that has come so far was looked at, and did not let it in: NICK and USER were seen, and it is not attached
+-- the client sent NICK and USER, but its password did not let it in: it is not attached
 abbrev pub is_turned_down : Phase → Bool
 is_turned_down (Arriving arrival) = arrival.nick && arrival.user
 is_turned_down _ = false
 
--- nothing
+-- an empty answer
 abbrev pub nothing : Given
 nothing = record { requests = []; reply = []; words = []; close = false }
 
--- Bytes that are fed
+-- Bytes from the client
 
--- where a call begins
+-- the progress of a call at its beginning
 abbrev pub begun : Gate → Progress
 begun g =
     record { phase = g.phase; waiting = length g.waiting; numbered = g.numbered; requests = []; reply = []; words = []; close = false }
 
--- what a call that has come so far makes of a gate
+-- a gate after a call with this progress
 abbrev pub kept : Gate → Progress → Gate
 kept g p = record { phase = p.phase; waiting = g.waiting ++ p.requests; numbered = p.numbered; closed = p.close }
 
--- what it answers
+-- the answer of a call with this progress
 abbrev pub given : Progress → Given
 given p = record { requests = p.requests; reply = p.reply; words = p.words; close = p.close }
 
--- a gate behind these items; a closed one takes none
+-- a gate after these items; a closed one takes none
 abbrev pub after_items : Settings → Gate → List Item → Gate
 after_items s g items = if g.closed then g else kept g (all_fed s (begun g) items)
 
--- what is answered to these items
+-- the answer to these items
 abbrev pub given_items : Settings → Gate → List Item → Given
 given_items s g items = if g.closed then nothing else given (all_fed s (begun g) items)
 
--- Effects of what was asked
+-- Effects of requests
 
--- what a gate hears of
+-- the effects that a gate gets
 abbrev pub GateEffect : Type 0
 GateEffect = Answer (ClaimsEffect (FenceEffect Effect))
 
@@ -82,31 +82,31 @@ GateEffect = Answer (ClaimsEffect (FenceEffect Effect))
 abbrev pub of_buffers : Effect → GateEffect
 of_buffers e = answer.Effect (claims.Inner (fence.Inner e))
 
--- the requests whose number is past this one
+-- the requests whose number is greater than this one
 abbrev pub behind_number : ℕ → List Request → List Request
 behind_number n [] = []
 behind_number n (r ∷ rs) = if nat_le r.number n then behind_number n rs else r ∷ rs
 
--- the first request is not past this number
+-- the first request's number is at most this one
 abbrev pub is_first_answered : ℕ → List Request → Bool
 is_first_answered n [] = false
 is_first_answered n (r ∷ rs) = nat_le r.number n
 
--- closed, if it was not
+-- the gate, closed
 abbrev pub shut : Gate → Gate
 shut g = record g { closed = true }
 
--- requests up to this number wait no more
+-- requests up to this number no longer wait
 abbrev pub answered : ℕ → Gate → Gate
 answered n g = record g { waiting = behind_number n g.waiting }
 
--- all but what a client is told, for which memory is needed
+-- any effect but those of which a client is informed, for which memory is needed
 abbrev pub WritesNothing : GateEffect → Type 0
 WritesNothing (answer.Effect (claims.Inner (fence.Inner (effect.Show o shown)))) = ⊥
 WritesNothing (answer.Effect (claims.Busy o)) = ⊥
 WritesNothing _ = ⊤
 
--- a gate behind an effect
+-- a gate after an effect
 abbrev pub after_effect : Settings → Gate → GateEffect → Gate
 after_effect s g (answer.Effect (claims.Inner (fence.Inner (effect.Close o)))) = if same_origin s.origin o then shut g else g
 after_effect s g (answer.Done o n) = if same_origin s.origin o then answered n g else g
@@ -117,11 +117,11 @@ after_effect s g _ = g
 abbrev pub given_reply : List ℕ → Given
 given_reply reply = record nothing { reply = reply }
 
--- a line of a client did not go upstream
+-- the answer that a line of the client did not go upstream
 abbrev pub busy : Settings → Given
 busy s = given_reply (status s.nick (codes "Busy, not sent."))
 
--- what is answered to an effect
+-- the answer to an effect
 abbrev pub given_effect : Settings → GateEffect → Given
 given_effect s (answer.Effect (claims.Inner (fence.Inner (effect.Show o shown)))) =
     if same_origin s.origin o then given_reply (shown_cut shown) else nothing
@@ -133,7 +133,7 @@ given_effect s _ = nothing
 
 -- The end of the connection
 
--- the Leave of a client that attached and did not leave, behind this number
+-- the Leave, after this number, of a client that attached and did not leave
 abbrev pub leave_of : Phase → ℕ → Option Request
 leave_of Attached numbered = Some (request (numbered + 1) action.Leave)
 leave_of _ numbered = None
@@ -142,7 +142,7 @@ leave_of _ numbered = None
 abbrev pub last_request : Gate → Option Request
 last_request g = leave_of g.phase g.numbered
 
--- a gate with one request more, which is Leave
+-- a gate with one more request, which is Leave
 abbrev pub with_leave : Gate → Gate
 with_leave g =
     record { phase = Left; waiting = g.waiting ++ request (g.numbered + 1) action.Leave ∷ []; numbered = g.numbered + 1; closed = true }

@@ -5,7 +5,7 @@ use Rattle.client_gate.specs.declared.settings.Settings.{Settings}
 use Rattle.client_gate.specs.Gates.{last_request}
 use Rattle.client_gate.specs.Calls.{Call, Feed, Hear, End, Refused, fed_answer, gate}
 
--- the requests that a call numbers, behind these calls
+-- the requests that a call numbers, after these calls
 abbrev pub numbered_by : Settings → List Call → Call → List Request
 numbered_by s earlier (Feed bytes) = (fed_answer s earlier bytes).requests
 numbered_by s earlier (Hear effect) = []

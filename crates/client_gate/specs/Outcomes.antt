@@ -1,10 +1,10 @@
--- What is left of a call that is over.
+-- What remains of a call that is over.
 use Rattle.std.specs.Prelude.{◌≡◌, ◌+◌, ◌++◌, length}
 use Rattle.client_gate.specs.declared.turn.Outcome.{Outcome}
 use Rattle.client_gate.specs.Turns.{IsWithin, Progress}
 use Rattle.client_gate.specs.Gates.{Gate}
 
--- this is what a call has done
+-- the outcome is what a call has done
 pub record IsOutcome (p : Progress) (o : Outcome) : Type 0 where
   pub phase : o.phase ≡ p.phase
   pub numbered : o.numbered ≡ p.numbered
@@ -13,7 +13,7 @@ pub record IsOutcome (p : Progress) (o : Outcome) : Type 0 where
   pub words : o.words.items ≡ p.words
   pub close : o.close ≡ p.close
 
--- what a call that came to this makes of a gate
+-- a gate after a call with this outcome
 abbrev pub kept_of : Gate → Outcome → Gate
 kept_of g o = record { phase = o.phase; waiting = g.waiting ++ o.requests.items; numbered = o.numbered; closed = o.close }
 

@@ -12,47 +12,48 @@ use Rattle.client_gate.specs.Commands.{lacks}
 use Rattle.client_gate.specs.Replies.{capabilities, incorrect, not_enough, not_registered, pong, welcome}
 use Rattle.client_gate.specs.Turns.{Deed, Ask, Write, Move, Close}
 
--- A PASS is the password, or something, `@`, the name of the client, `:` and the password
+-- A PASS is either the password, or anything, `@`, the name of the client, `:` and the password
 
--- a byte more before the cut
+-- one more byte before the cut
 abbrev pub with_first : ℕ → Option (List ℕ × List ℕ) → Option (List ℕ × List ℕ)
 with_first b None = None
 with_first b (Some cut) = Some (b ∷ cut.0, cut.1)
 
--- what stands before the first of these bytes, and what stands behind it
+-- what comes before the first of these bytes, and what follows it
 abbrev pub first_cut : ℕ → List ℕ → Option (List ℕ × List ℕ)
 first_cut mark [] = None
 first_cut mark (b ∷ s) = if b == mark then Some ([], s) else with_first b (first_cut mark s)
 
--- what stands behind the first cut, cut at the first `:`
+-- what follows the first cut, cut at the first `:`
 abbrev pub cut_behind : Option (List ℕ × List ℕ) → Option (List ℕ × List ℕ)
 cut_behind None = None
 cut_behind (Some cut) = first_cut 58 cut.1
 
--- what stands between the first `@` of a PASS and the first `:` behind that, and what stands behind this
+-- what is between the first `@` of a PASS and the first `:` after that, and what follows this
 abbrev pub named_in : List ℕ → Option (List ℕ × List ℕ)
 named_in pass = cut_behind (first_cut 64 pass)
 
--- a client by its name, where that is one, and the password is right
+-- a client that gives a name, if that is a name and the password is right
 abbrev pub by_name : List ℕ → Option (List ℕ × List ℕ) → Option (Option (List ℕ))
 by_name right None = None
 by_name right (Some named) = if same_bytes named.1 right && is_name named.0 then Some (Some named.0) else None
 
--- by which name a PASS lets a client in, if by one: a PASS that is the password gives none, whatever stands in it
+-- the name with which a PASS lets a client in, if it does: a PASS that is the password itself gives none, whatever it
+-- contains
 abbrev pub admission : List ℕ → List ℕ → Option (Option (List ℕ))
 admission right pass = if same_bytes pass right then Some None else by_name right (named_in pass)
 
--- by which name the PASS that came last lets a client in
+-- the name with which the last PASS lets a client in
 abbrev pub last_admission : List ℕ → Option (List ℕ) → Option (Option (List ℕ))
 last_admission right None = None
 last_admission right (Some pass) = admission right pass
 
--- the client is registered and attaches, by its name, if it gave one; or the connection closes, of a client of which it is kept what came
+-- the client is registered and attaches, by its name if it gave one; or it is refused and the connection closes
 abbrev pub let_in : Settings → Arrival → Option (Option (List ℕ)) → List Deed
 let_in s arrival None = Write incorrect ∷ Move (Arriving arrival) ∷ Close ∷ []
 let_in s arrival (Some id) = Write (welcome s.nick) ∷ Move Attached ∷ Ask (action.Attach id) ∷ []
 
--- NICK and USER were seen
+-- NICK and USER were both seen
 abbrev pub admitted : Settings → Arrival → List Deed
 admitted s arrival = let_in s arrival (last_admission s.password arrival.password)
 
@@ -64,7 +65,7 @@ seen s arrival = if arrival.nick && arrival.user then admitted s arrival else Mo
 abbrev pub cap_deeds : Parts → List Deed
 cap_deeds line = if same_bytes (parameter 0 line) (codes "LS") then Write capabilities ∷ [] else []
 
--- a command with parameters enough
+-- a command with enough parameters
 abbrev pub early : Settings → Arrival → Parts → ClientCommand → List Deed
 early s arrival line Pass = Move (Arriving (record arrival { password = Some (parameter 0 line) })) ∷ []
 early s arrival line Nick = seen s (record arrival { nick = true })
@@ -74,7 +75,7 @@ early s arrival line Ping = Write (pong (parameter 0 line)) ∷ []
 early s arrival line Quit = Close ∷ []
 early s arrival line _ = Write not_registered ∷ []
 
--- the commands that are looked at before registration
+-- the commands that are known before registration
 abbrev pub is_early : ClientCommand → Bool
 is_early Pass = true
 is_early Nick = true

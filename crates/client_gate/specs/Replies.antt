@@ -3,11 +3,11 @@ use Rattle.std.specs.Prelude.{ℕ, ◌==◌, if◌then◌else◌, List, [], ◌�
 use Rattle.irc_line.specs.Lines.{line_of, spelling}
 use Rattle.irc_line.specs.Limits.{content_limit, name_limit}
 
--- a line as it leaves
+-- a line as it is sent
 abbrev pub with_end : List ℕ → List ℕ
 with_end bytes = bytes ++ 13 ∷ 10 ∷ []
 
--- a line of the bouncer's own, in its canonical spelling
+-- a line of the bouncer itself, in its canonical spelling
 abbrev pub reply : List ℕ → List (List ℕ) → List ℕ
 reply command parameters = with_end (spelling (line_of (codes "bouncer.local") command parameters))
 
@@ -19,11 +19,11 @@ welcome nick = reply (codes "001") (nick ∷ codes "Welcome to the bouncer" ∷ 
 abbrev pub not_registered : List ℕ
 not_registered = reply (codes "451") (codes "*" ∷ codes "You have not registered" ∷ [])
 
--- a command with too few parameters, told to a client of this name
+-- a command with too few parameters, in the answer to a client of this name
 abbrev pub not_enough : List ℕ → List ℕ → List ℕ
 not_enough name command = reply (codes "461") (name ∷ command ∷ codes "Not enough parameters" ∷ [])
 
--- a word as it is told: its first 64 bytes, or `*` where it is empty
+-- a word as an answer repeats it: its first 64 bytes, or `*` where it is empty
 abbrev pub told_word : List ℕ → List ℕ
 told_word word = if length word == 0 then codes "*" else take name_limit word
 
@@ -43,11 +43,11 @@ capabilities = reply (codes "CAP") (codes "*" ∷ codes "LS" ∷ [] ∷ [])
 abbrev pub pong : List ℕ → List ℕ
 pong token = reply (codes "PONG") (codes "bouncer.local" ∷ token ∷ [])
 
--- a text of the bouncer's own to a client of this nick
+-- a text of the bouncer itself to a client of this nick
 abbrev pub status : List ℕ → List ℕ → List ℕ
 status nick text =
     with_end (spelling (line_of (codes "*status!bouncer@local") (codes "PRIVMSG") (nick ∷ text ∷ [])))
 
--- what is shown, as it leaves: its first 510 bytes with CR LF
+-- what is shown, as it is sent: its first 510 bytes with CR LF
 abbrev pub shown_cut : List ℕ → List ℕ
 shown_cut shown = with_end (take content_limit shown)

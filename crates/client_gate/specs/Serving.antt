@@ -23,19 +23,19 @@ use Rattle.client_gate.specs.Turns.{Deed, Ask, Leave, Write, Close, Progress, al
 use Rattle.client_gate.specs.Words.{pieces}
 use Rattle.irc_line.specs.Limits.{line_limit}
 
--- the line goes upstream without its prefix; each line that is fed is short enough for it
+-- the line goes upstream without its prefix; every line that is fed is short enough for it
 abbrev pub passed : Parts → List Deed
 passed line =
     if nat_le (length (spelling (without_prefix line))) line_limit
     then Ask (action.Pass (without_prefix line)) ∷ []
     else []
 
--- what is asked about a channel
+-- a request about a channel
 abbrev pub channel_action : ChannelVerb → List ℕ → Action
 channel_action channel.Join name = action.Join name
 channel_action channel.Part name = action.Part name
 
--- a request about a channel, or a word that it is none
+-- a request about a channel, or the answer that a word is none
 abbrev pub about_word : List ℕ → ChannelVerb → List ℕ → List Deed
 about_word nick v word = if is_channel word then Ask (channel_action v word) ∷ [] else Write (no_channel nick word) ∷ []
 
@@ -43,16 +43,16 @@ about_word nick v word = if is_channel word then Ask (channel_action v word) ∷
 abbrev pub about_words : List ℕ → ChannelVerb → List ℕ → List Deed
 about_words nick v list = flat_map (about_word nick v) (pieces 44 list)
 
--- a JOIN with a key, or of all that is to be left
+-- a JOIN with a key, or one that leaves all channels
 abbrev pub is_passed_join : Parts → Bool
 is_passed_join line = nat_lt 1 (length line.parameters) || same_bytes (parameter 0 line) (codes "0")
 
--- a text to the bouncer itself; a NOTICE is not looked at
+-- a text to the bouncer itself; a NOTICE is ignored
 abbrev pub to_status : List ℕ → Verb → List ℕ → List Deed
 to_status nick verb.Privmsg text = status_deeds nick text
 to_status nick verb.Notice text = []
 
--- a message to one target, skipped where that is no name
+-- a message to one target, skipped if that is no name
 abbrev pub said_to : List ℕ → Verb → List ℕ → List ℕ → List Deed
 said_to nick v text target =
     if same_name target (codes "*status")
@@ -60,12 +60,12 @@ said_to nick v text target =
     else
     if is_name target then Ask (action.Say v target text) ∷ [] else []
 
--- a message to each target between commas; a text that is too long, which no line holds, goes nowhere
+-- a message to each target between commas; a text that is too long for any line is dropped
 abbrev pub said_to_all : List ℕ → Verb → Parts → List Deed
 said_to_all nick v line =
     if is_text (parameter 1 line) then flat_map (said_to nick v (parameter 1 line)) (pieces 44 (parameter 0 line)) else []
 
--- a command with parameters enough
+-- a command with enough parameters
 abbrev pub served : List ℕ → Parts → ClientCommand → List Deed
 served nick line Pass = []
 served nick line User = []
@@ -93,12 +93,12 @@ line_deeds s (Arriving arrival) line = arriving_deeds s arrival line (command_of
 line_deeds s Attached line = attached_deeds s.nick line (command_of line.command)
 line_deeds s Left line = []
 
--- a line refused is skipped
+-- a refused line is skipped
 abbrev pub item_deeds : Settings → Phase → Item → List Deed
 item_deeds s phase (Got line) = line_deeds s phase line
 item_deeds s phase (Refused fault) = []
 
--- behind a close nothing is looked at
+-- after a close all items are ignored
 unfoldable pub fed : Settings → Progress → Item → Progress
 fed s p item = if p.close then p else all_done s.nick p (item_deeds s p.phase item)
 

@@ -1,4 +1,4 @@
--- What a client says to `*status`: words that ask for something, in letters of either case.
+-- What a client says to `*status`: words that request something, in either case.
 use Rattle.std.specs.Prelude.{ℕ, ◌+◌, ◌*◌, ◌-◌, ◌&&◌, min, Bool, if◌then◌else◌, List, [], ◌∷◌, map, Option, Some, None, codes}
 use Rattle.std.specs.List.{list_all}
 use Rattle.irc_line.specs.Names.{is_channel, is_name, same_bytes}
@@ -12,25 +12,25 @@ use Rattle.client_gate.specs.Turns.{Deed, Ask, Note, Write}
 use Rattle.client_gate.specs.Replies.{status}
 use Rattle.client_gate.specs.Words.{words}
 
--- a word in letters of either case; the second is in upper case
+-- a word in either case equals this one; the second is in upper case
 abbrev pub is_spelled : List ℕ → List ℕ → Bool
 is_spelled word spelled = same_bytes (map upper word) spelled
 
--- a number with this digit behind it, where one past 65,535 stays 65,535
+-- a number followed by this digit; above 65,535 it stays 65,535
 abbrev pub with_digit : ℕ → ℕ → ℕ
 with_digit n digit = min 65535 (10 * n + (digit - 48))
 
--- the number that these digits are behind this one
+-- the number that these digits make after this one
 abbrev pub number_from : ℕ → List ℕ → ℕ
 number_from n [] = n
 number_from n (digit ∷ digits) = number_from (with_digit n digit) digits
 
--- a number in decimal; one past 65,535 is 65,535
+-- a number in decimal; above 65,535 it is 65,535
 abbrev pub number_of : List ℕ → Option ℕ
 number_of [] = None
 number_of (b ∷ s) = if list_all is_digit (b ∷ s) then Some (number_from 0 (b ∷ s)) else None
 
--- what one word asks for
+-- the request of one word
 abbrev pub asked_by_one : List ℕ → Option Action
 asked_by_one word =
     if is_spelled word (codes "CLEARALLCHANNELBUFFERS") then Some action.ClearChannels
@@ -38,15 +38,15 @@ asked_by_one word =
     else if is_spelled word (codes "CLEARALLBUFFERS") then Some action.ClearAll
     else None
 
--- what is asked about a channel
+-- a request about a channel
 abbrev pub about_channel : (List ℕ → Action) → List ℕ → Option Action
 about_channel a name = if is_channel name then Some (a name) else None
 
--- what is asked about any target
+-- a request about any target
 abbrev pub about_name : (List ℕ → Action) → List ℕ → Option Action
 about_name a name = if is_name name then Some (a name) else None
 
--- what a word asks for with a target
+-- the request of a word with a target
 abbrev pub asked_by_two : List ℕ → List ℕ → Option Action
 asked_by_two word target =
     if is_spelled word (codes "ATTACH") then about_channel action.Reattach target
@@ -60,18 +60,18 @@ abbrev pub sized : List ℕ → Option ℕ → Option Action
 sized target None = None
 sized target (Some size) = about_name (λ name. action.SetBuffer name size) target
 
--- what a word asks for with a target and a number
+-- the request of a word with a target and a number
 abbrev pub asked_by_three : List ℕ → List ℕ → List ℕ → Option Action
 asked_by_three word target number = if is_spelled word (codes "SETBUFFER") then sized target (number_of number) else None
 
--- what words ask for
+-- the request of these words
 abbrev pub asked_by : List (List ℕ) → Option Action
 asked_by (word ∷ []) = asked_by_one word
 asked_by (word ∷ target ∷ []) = asked_by_two word target
 asked_by (word ∷ target ∷ number ∷ []) = asked_by_three word target number
 asked_by _ = None
 
--- what one word says that asks for nothing of the buffers
+-- what one word says that makes no request to the buffers
 abbrev pub said_by_one : List ℕ → StatusWord
 said_by_one word =
     if is_spelled word (codes "HELP") then Help
@@ -79,17 +79,17 @@ said_by_one word =
     else if is_spelled word (codes "CLIENTS") then Clients
     else Unknown
 
--- what a word says with an argument that asks for nothing of the buffers
+-- what a word with an argument says that makes no request to the buffers
 abbrev pub said_by_two : List ℕ → List ℕ → StatusWord
 said_by_two word argument = if is_spelled word (codes "DROP") && is_spelled argument (codes "WAITING") then DropWaiting else Unknown
 
--- what words say that ask for nothing of the buffers
+-- what words say that make no request to the buffers
 abbrev pub said_by : List (List ℕ) → StatusWord
 said_by (word ∷ []) = said_by_one word
 said_by (word ∷ argument ∷ []) = said_by_two word argument
 said_by _ = Unknown
 
--- what is asked for, or that nothing is, and what these words say then
+-- the request, or if there is none, what these words say
 abbrev pub status_answer : List ℕ → StatusWord → Option Action → List Deed
 status_answer nick word (Some a) = Ask a ∷ []
 status_answer nick word None = Write (status nick (codes "Unknown command.")) ∷ Note word ∷ []

@@ -1,4 +1,4 @@
--- What a call does, one deed behind the other.
+-- What a call does, one deed after the other.
 use Rattle.std.specs.Prelude.{◌≡◌, ◌<◌, ◌≤◌, ℕ, ◌+◌, Bool, true, false, ◌&&◌, if◌then◌else◌, nat_lt, List, [], ◌∷◌, ◌++◌, codes}
 use Rattle.buffer_commands.specs.declared.command.Action.{Action}
 use Rattle.buffer_commands.specs.declared.command.Action.TheVariants as action
@@ -10,8 +10,8 @@ use Rattle.client_gate.specs.Replies.{status}
 use Rattle.client_gate.specs.declared.turn.TheConstants.{MOST_WAITING}
 use Rattle.wire_bytes.specs.Limits.{number_limit}
 
--- where a call has come: the client's phase, how many requests wait, the number of the last one, and what the call
--- answers: the requests that it numbered, the bytes that it writes, the words to the bouncer that ask for nothing, and
+-- the progress of a call: the client's phase, how many requests wait, the number of the last one, and what the call
+-- answers: the requests that it numbered, the bytes that it writes, the words to the bouncer that make no request, and
 -- whether it closes
 pub record Progress : Type 0 where
   pub phase : Phase
@@ -22,7 +22,7 @@ pub record Progress : Type 0 where
   pub words : List StatusWord
   pub close : Bool
 
--- what a gate does
+-- one deed of a gate
 pub data Deed : Type 0 where
   Ask : Action → Deed
   Leave : Deed
@@ -35,7 +35,7 @@ pub data Deed : Type 0 where
 abbrev pub request : ℕ → Action → Request
 request number a = record { number = number; action = a }
 
--- fewer than MOST_WAITING requests wait, and there is a number besides the last one, which is kept for Leave
+-- fewer than MOST_WAITING requests wait, and there is a number left besides the last one, which is kept for Leave
 abbrev pub has_room : Progress → Bool
 has_room p = nat_lt p.waiting MOST_WAITING && nat_lt (p.numbered + 1) number_limit
 
@@ -44,11 +44,11 @@ abbrev pub numbered_next : Action → Progress → Progress
 numbered_next a p =
     record p { waiting = p.waiting + 1; numbered = p.numbered + 1; requests = p.requests ++ request (p.numbered + 1) a ∷ [] }
 
--- some bytes more
+-- some more bytes
 abbrev pub written : List ℕ → Progress → Progress
 written bytes p = record p { reply = p.reply ++ bytes }
 
--- words to the bouncer that ask for nothing
+-- words to the bouncer that make no request
 abbrev pub noted : StatusWord → Progress → Progress
 noted word p = record p { words = p.words ++ word ∷ [] }
 
@@ -56,11 +56,11 @@ noted word p = record p { words = p.words ++ word ∷ [] }
 abbrev pub moved : Phase → Progress → Progress
 moved phase p = record p { phase = phase }
 
--- a request, or where there is no room for one, a word about it
+-- a request; if there is no room for one, an answer that says so
 abbrev pub asked : List ℕ → Action → Progress → Progress
 asked nick a p = if has_room p then numbered_next a p else written (status nick (codes "Too many requests waiting.")) p
 
--- the last request of all
+-- the client's last request
 abbrev pub left : Progress → Progress
 left p = moved Left (numbered_next action.Leave p)
 
@@ -82,16 +82,16 @@ abbrev pub all_done : List ℕ → Progress → List Deed → Progress
 all_done nick p [] = p
 all_done nick p (deed ∷ deeds) = all_done nick (done nick p deed) deeds
 
--- the last request of all was numbered
+-- the client's last request was numbered
 abbrev pub has_left : Phase → Bool
 has_left Left = true
 has_left _ = false
 
--- for how many requests a gate has room: those that may wait, and Leave besides
+-- how many requests a gate has room for: those that may wait, and a Leave
 abbrev pub waiting_room : ℕ
 waiting_room = MOST_WAITING + 1
 
--- the limits that a gate keeps: MOST_WAITING requests may wait, and Leave besides, with numbers up to 2^60
+-- the limits of a gate: MOST_WAITING requests may wait, and a Leave, with numbers up to 2^60
 pub record IsWithin (phase : Phase) (waiting numbered : ℕ) : Type 0 where
   pub all : (waiting ≤ waiting_room) × (numbered ≤ number_limit)
   pub but_leave : has_left phase ≡ false → (waiting ≤ MOST_WAITING) × (numbered < number_limit)

@@ -6,12 +6,12 @@ abbrev pub before_first : ℕ → List (List ℕ) → List (List ℕ)
 before_first b [] = (b ∷ []) ∷ []
 before_first b (piece ∷ pieces) = (b ∷ piece) ∷ pieces
 
--- what stands between separators: one piece more than there are of them, some of them empty
+-- what is between separators: one piece more than there are separators, some of them empty
 abbrev pub pieces : ℕ → List ℕ → List (List ℕ)
 pieces separator [] = [] ∷ []
 pieces separator (b ∷ s) = if b == separator then [] ∷ pieces separator s else before_first b (pieces separator s)
 
--- some bytes
+-- a word that is not empty
 abbrev pub is_some_word : List ℕ → Bool
 is_some_word word = not (length word == 0)
 

@@ -1,4 +1,5 @@
-//! Whether a PASS lets a client in, and by which name: it is the password, or something, `@`, the name, `:` and the password.
+//! Whether a PASS lets a client in, and with which name: it is the password, or anything, `@`, the name, `:` and the
+//! password.
 ghost use Rattle.std.specs.Prelude.{◌≡◌, Some, None, IfOk, MatchOption};
 ghost use Rattle.client_gate.specs.Registering.{admission, by_name, first_cut, named_in};
 
@@ -7,14 +8,14 @@ use crate::splitting::at_separator;
 use irc_line::Name;
 use std::alloc::{AllocError, Global};
 
-/// Who is let in, if anyone: a client that gave a name, or one that gave none.
+/// Whether a client is let in, and then the name that it gave, if it gave one.
 pub type Admission = Option<Option<Name>>;
 
-/// By which name a PASS lets a client in.
+/// The name with which a PASS lets a client in.
 pub fn admission(alloc: Global, right: &Password, pass: &Password) -> Result<Admission, AllocError>
     ensures { IfOk result (λ a. a ≡ admission right.now pass.now) }
 {
-    // looked at first: a password may have an `@` and a `:` of its own
+    // checked first: a password may contain an `@` and a `:`
     if pass.is(right) {
         return Ok(Some(None));
     }
@@ -24,7 +25,7 @@ pub fn admission(alloc: Global, right: &Password, pass: &Password) -> Result<Adm
     }
 }
 
-/// What stands between the first `@` and the first `:` behind that, and what stands behind this.
+/// What is between the first `@` and the first `:` after that, and what follows this.
 fn name_and_password(pass: &[u8]) -> Option<(&[u8], &[u8])>
     ensures { MatchOption result (named_in pass.now ≡ None)
         (λ t. named_in pass.now ≡ Some (t.0.now, t.1.now)) }
@@ -35,7 +36,7 @@ fn name_and_password(pass: &[u8]) -> Option<(&[u8], &[u8])>
     }
 }
 
-/// A client that gives a name, which may be none, and a password, which may be wrong.
+/// Admits a client that gives a name, which may be no name, and a password, which may be wrong.
 fn admit_named(
     alloc: Global,
     right: &Password,

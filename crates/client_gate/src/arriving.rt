@@ -15,7 +15,7 @@ use buffer_commands::Action;
 use irc_line::{Line, is_same};
 use std::alloc::{AllocError, Global};
 
-/// Who is told something before a nick is taken.
+/// The name of a client in answers before it has a nick.
 const ANYONE: &[u8] = b"*";
 
 const WELCOME: &[u8] = b"Welcome to the bouncer";
@@ -62,7 +62,7 @@ fn is_early(command: ClientCommand) -> bool
     }
 }
 
-/// A command with parameters enough.
+/// Does a command with enough parameters.
 fn take(
     alloc: Global,
     turn: &mut Turn,
@@ -106,14 +106,14 @@ fn take(
     }
 }
 
-/// Says that a command comes too early.
+/// Answers that a command comes too early.
 fn refuse_early(turn: &mut Turn) -> Result<(), AllocError>
     ensures { OnOk result (turn.new ≡ written not_registered turn.old) }
 {
     turn.reply(b"451", &[ANYONE, NOT_REGISTERED])
 }
 
-/// NICK or USER was seen now.
+/// Notes that NICK or USER was seen.
 fn see(
     alloc: Global,
     turn: &mut Turn,
@@ -132,7 +132,7 @@ fn see(
     }
 }
 
-/// NICK and USER were seen: the password is looked at.
+/// Checks the password, once NICK and USER were seen.
 fn admit(
     alloc: Global,
     turn: &mut Turn,
@@ -158,7 +158,7 @@ fn admit(
     }
 }
 
-/// `CAP LS` is answered, any other CAP is skipped.
+/// Answers `CAP LS`; any other CAP is skipped.
 pub fn tell_capabilities(
     turn: &mut Turn,
     settings: &Settings,
@@ -173,7 +173,7 @@ pub fn tell_capabilities(
     }
 }
 
-/// A PING is answered (RFC 2812, 3.7.2).
+/// Answers a PING (RFC 2812, 3.7.2).
 pub fn tell_pong(turn: &mut Turn, line: &Line) -> Result<(), AllocError>
     ensures { OnOk result (turn.new ≡ written (pong (parameter 0 line.now)) turn.old) }
 {

@@ -13,15 +13,15 @@ pub struct Fed {
     pub requests: Vec<Request>,
     /// The bytes that go to the client: lines, each with its CR LF.
     pub reply: Vec<u8>,
-    /// What the client said to the bouncer that asked for nothing of the buffers, in order. The bytes say that no such
+    /// What the client said to the bouncer that made no request to the buffers, in order. The reply says that no such
     /// command is known.
     pub words: Vec<StatusWord>,
-    /// Whether the connection is to close, behind these bytes.
+    /// Whether the connection is to be closed after these bytes.
     pub close: bool,
 }
 
 impl Fed {
-    /// The answer that asks for nothing and writes nothing; it takes no memory.
+    /// The answer without requests and bytes; it allocates nothing.
     pub(crate) fn nothing(alloc: Global) -> Fed
         ensures { given_in result ≡ nothing }
     {
@@ -33,7 +33,7 @@ impl Fed {
         }
     }
 
-    /// The answer that writes these bytes.
+    /// The answer that consists of these bytes.
     pub(crate) fn of_reply(alloc: Global, reply: Vec<u8>) -> Fed
         ensures { given_in result ≡ given_reply reply.items }
     {

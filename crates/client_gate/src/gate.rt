@@ -22,7 +22,7 @@ use std::marker::Model;
 use upstream_claim::ClaimsEffect;
 use wire_bytes::{Number, Origin, copied_all};
 
-/// What comes of the requests of clients.
+/// The effects of the requests of clients.
 pub type GateEffect = Answer<ClaimsEffect<FenceEffect<Effect>>>;
 
 /// The number of a client's first request.
@@ -33,8 +33,8 @@ const ROOM: usize = MOST_WAITING + 1;
 
 /// Speaks IRC to one client.
 ///
-/// A call that finds no memory numbers no request and closes the gate; its caller closes the
-/// connection. A closed gate takes no more bytes, and still hears what comes of its requests.
+/// A call that runs out of memory numbers no request and closes the gate; its caller closes the
+/// connection. A closed gate takes no more bytes, but it still gets the effects of its requests.
 #[derive(Drop)]
 pub struct ClientGate {
     alloc: Global,
@@ -43,7 +43,7 @@ pub struct ClientGate {
     phase: Phase,
     /// The requests that are not known to be done, in order of their numbers.
     waiting: HeapCircularBuffer<Request>,
-    /// The number of the last request, 0 where there was none.
+    /// The number of the last request, 0 before the first.
     numbered: u64,
     closed: bool,
 }
@@ -79,8 +79,8 @@ impl ClientGate {
     ghost use Rattle.client_gate.specs.Outcomes.{HasPlace, IsOutcome, kept_of};
     ghost use Rattle.client_gate.specs.Serving.{all_fed};
 
-    /// The gate of a client's connection, for a client that is to send this password, and is told
-    /// things by this nick.
+    /// The gate of a client's connection, for a client that must send this password, and that is
+    /// addressed by this nick.
     pub fn new(
         alloc: Global,
         origin: Origin,
@@ -108,7 +108,7 @@ impl ClientGate {
         })
     }
 
-    /// Takes bytes of the client, however they are cut. A closed gate takes none, and no memory.
+    /// Takes bytes of the client, however they are cut. A closed gate takes and allocates nothing.
     pub fn feed(&mut self, bytes: &[u8]) -> Result<Fed, AllocError>
         ensures stands { (s : Settings) (calls : List Call) → Stands s calls self.old →
             MatchResult result (λ _. Stands s (Feed bytes.now ∷ calls) self.new)
@@ -129,8 +129,8 @@ impl ClientGate {
         }
     }
 
-    /// Hears what came of a request, of this client or of another. Memory is asked for only where
-    /// the client is told something.
+    /// Takes an effect of a request, of this client or of another. It allocates only where the
+    /// client is sent something.
     pub fn on_effect(&mut self, effect: &GateEffect) -> Result<Fed, AllocError>
         ensures stands { (s : Settings) (calls : List Call) → Stands s calls self.old →
             MatchResult result (λ _. Stands s (Hear effect.now ∷ calls) self.new)
@@ -166,7 +166,7 @@ impl ClientGate {
         self.waiting.len()
     }
 
-    /// Whether it is not known that the client's first request is done, by which it attaches.
+    /// Whether the client's first request, by which it attaches, is not known to be done.
     pub fn is_attaching(&self) -> bool
         ensures { (s : Settings) (calls : List Call) → Stands s calls self.now →
             result ≡ is_first_answered 1 (gate s calls).waiting }
@@ -174,7 +174,7 @@ impl ClientGate {
         is_first_answered(&self.waiting, FIRST)
     }
 
-    /// Whether the client's password was looked at, and did not let it in.
+    /// Whether the client's password was checked and did not let it in.
     pub fn is_turned_down(&self) -> bool
         ensures { (s : Settings) (calls : List Call) → Stands s calls self.now →
             result ≡ is_turned_down (gate s calls).phase }
@@ -185,8 +185,8 @@ impl ClientGate {
         }
     }
 
-    /// Ends the gate of a connection that is gone: the Leave of a client that attached and did not
-    /// leave, and nothing else. It takes no memory.
+    /// Ends the gate of a connection that is gone. Returns the Leave of a client that attached and
+    /// did not leave, and nothing else. It allocates nothing.
     pub fn end(&mut self) -> Option<Request>
         ensures stands { (s : Settings) (calls : List Call) → Stands s calls self.old →
             Stands s (End ∷ calls) self.new }
@@ -248,7 +248,7 @@ impl ClientGate {
         Ok(self.keep(outcome, requests))
     }
 
-    /// What a call comes to that takes these items; the gate is as before.
+    /// The outcome of a call that takes these items; the gate is as before.
     fn outcome_of(&self, items: &[Item]) -> Result<Outcome, AllocError>
         ensures outcome { IfOk result (λ o.
             IsOutcome (all_fed self.now.settings (begun self.now.gate) items.now) o) }
@@ -260,7 +260,7 @@ impl ClientGate {
         Ok(turn.finish())
     }
 
-    /// Keeps what a call has done, and answers it with copies of its requests.
+    /// Keeps what a call has done, and returns its answer with copies of its requests.
     fn keep(&mut self, outcome: Outcome, requests: Vec<Request>) -> Fed
         requires { HasPlace self.old.gate outcome }
         ensures gate { self.new ≡ record self.old { gate = kept_of self.old.gate outcome } }

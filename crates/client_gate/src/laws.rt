@@ -15,7 +15,7 @@ pub fn cutting_changes_nothing()
 {}
 
 /// Over a whole list of calls the requests have the numbers from 1 on, each once and in order; a
-/// call that found no memory has none of them.
+/// call that ran out of memory has none of them.
 pub fn requests_are_numbered_in_order()
     ensures { (s : Settings) (calls : List Call) → AreNumberedFrom 1 (all_requests s calls) }
 {}

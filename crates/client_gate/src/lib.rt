@@ -1,7 +1,6 @@
-//! What speaks IRC to one client of a bouncer: it reads the client's bytes, numbers its requests,
-//! and writes what comes of them.
-//! Stands under driver, and under the tests of buffer_cases and node_cases.
-//! Promises that the requests, bytes and closes of all calls are the definition's, however a client's bytes are cut.
+//! Speaks IRC to one client of a bouncer: it reads the client's bytes, numbers its requests, and writes their effects.
+//! Used by driver, and by the tests of buffer_cases and node_cases. Promises that the requests, bytes and closes of all
+//! calls are the definition's, however a client's bytes are cut.
 #![tactic(auto)]
 
 mod admission;

@@ -20,7 +20,7 @@ const STATUS: &[u8] = b"*status";
 
 const NO_SUCH_CHANNEL: &[u8] = b"No such channel";
 
-/// What is asked about a channel.
+/// A request about a channel.
 #[derive(Clone, Copy, Debug, PartialEq, Eq)]
 pub enum ChannelVerb {
     Join,
@@ -38,7 +38,7 @@ impl ChannelVerb {
     }
 }
 
-/// Asks about each channel of a list with commas.
+/// Makes a request for each channel of a list with commas.
 #[tactic(auto, using(crate::proofs::Deeds::all_done_append))]
 pub fn ask_all(
     alloc: Global,
@@ -56,7 +56,7 @@ pub fn ask_all(
     Ok(())
 }
 
-/// Asks about a channel, or says that it is none.
+/// Makes a request about a channel, or answers that a word is none.
 fn ask_about(
     alloc: Global,
     turn: &mut Turn,
@@ -73,7 +73,7 @@ fn ask_about(
     }
 }
 
-/// The channel of this name, where it is a channel's.
+/// The channel of this name, if it is a channel's.
 pub fn channel_of(alloc: Global, word: &[u8]) -> Result<Option<ChannelName>, AllocError>
     ensures { IfOk result (λ o. o ≡ passed_by is_channel word.now) }
 {
@@ -86,7 +86,7 @@ pub fn channel_of(alloc: Global, word: &[u8]) -> Result<Option<ChannelName>, All
     }
 }
 
-/// The name of these bytes, where they are one.
+/// The name of these bytes, if they are one.
 pub fn name_of(alloc: Global, word: &[u8]) -> Result<Option<Name>, AllocError>
     ensures { IfOk result (λ o. o ≡ passed_by is_name word.now) }
 {
@@ -97,7 +97,7 @@ pub fn name_of(alloc: Global, word: &[u8]) -> Result<Option<Name>, AllocError>
     }
 }
 
-/// Says that a word is no channel's name.
+/// Answers that a word is no channel's name.
 fn refuse_channel(turn: &mut Turn, nick: &Name, word: &[u8]) -> Result<(), AllocError>
     ensures { OnOk result (turn.new ≡ written (no_channel nick.now word.now) turn.old) }
 {
@@ -114,7 +114,7 @@ fn told_word(word: &[u8]) -> &[u8]
     }
 }
 
-/// A message to each target of a list with commas.
+/// Sends a message to each target of a list with commas.
 #[tactic(auto, using(crate::proofs::Deeds::all_done_append))]
 pub fn say_all(
     alloc: Global,
@@ -136,7 +136,7 @@ pub fn say_all(
     Ok(())
 }
 
-/// A message to one target, skipped where that is no name.
+/// Sends a message to one target; skipped if that is no name.
 fn say(
     alloc: Global,
     turn: &mut Turn,

@@ -1,5 +1,5 @@
-//! Lines of a client that go upstream as they are, but for their prefix. After an error a part may
-//! have been done.
+//! Lines of a client that go upstream as they are, except for their prefix. After an error a part
+//! may have been done.
 ghost use Rattle.std.specs.Prelude.{◌≡◌, OnOk};
 ghost use Rattle.client_gate.specs.Serving.{passed};
 ghost use Rattle.client_gate.specs.Turns.{all_done};
@@ -10,7 +10,7 @@ use buffer_commands::{Action, WireLine};
 use irc_line::Line;
 use std::alloc::{AllocError, Global};
 
-/// A line goes upstream without its prefix.
+/// Passes a line upstream without its prefix.
 pub fn pass(
     alloc: Global,
     turn: &mut Turn,

@@ -5,7 +5,7 @@ use crate::admission::{Admission, admission};
 use crate::password::Password;
 use std::alloc::{AllocError, Global};
 
-/// What came of a client before it is registered: the last PASS, and whether NICK and USER were
+/// What came from a client before it is registered: the last PASS, and whether NICK and USER were
 /// seen.
 #[derive(Drop)]
 pub struct Arrival {
@@ -14,7 +14,7 @@ pub struct Arrival {
     pub user: bool,
 }
 
-/// How far a client has come.
+/// How far the registration of a client has come.
 #[derive(Drop)]
 pub enum Phase {
     /// It is not registered yet.
@@ -40,7 +40,7 @@ impl Arrival {
         })
     }
 
-    /// By which name the PASS that came last lets the client in.
+    /// The name with which the last PASS lets the client in.
     pub fn admission(&self, alloc: Global, right: &Password) -> Result<Admission, AllocError>
         ensures { IfOk result (λ a. a ≡ last_admission right.now self.now.password) }
     {

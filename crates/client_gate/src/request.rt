@@ -2,7 +2,7 @@ use buffer_commands::Action;
 use std::alloc::{AllocError, Global};
 use wire_bytes::{Copied, Number};
 
-/// What a client asks for, with its number among the client's requests, from 1.
+/// A request of a client, with its number among the client's requests, from 1.
 #[derive(Drop)]
 pub struct Request {
     pub number: Number,

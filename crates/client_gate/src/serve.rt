@@ -15,7 +15,7 @@ use buffer_commands::Verb;
 use irc_line::{Item, Line, is_same};
 use std::alloc::{AllocError, Global};
 
-/// A JOIN of this leaves all channels (RFC 2812, 3.2.1).
+/// A JOIN with this parameter leaves all channels (RFC 2812, 3.2.1).
 const ALL_CHANNELS: &[u8] = b"0";
 
 /// Does what items ask for, in order.
@@ -37,7 +37,7 @@ pub fn serve_all(
     }
 }
 
-/// Does what an item asks for; behind a close nothing is looked at.
+/// Does what an item asks for; after a close it is ignored.
 #[tactic(auto, unfolding(crate::specs::Serving::fed))]
 fn serve_item(
     alloc: Global,
@@ -97,7 +97,7 @@ fn serve_attached(
     serve_command(alloc, turn, settings, line, command)
 }
 
-/// A command with parameters enough.
+/// Does a command with enough parameters.
 fn serve_command(
     alloc: Global,
     turn: &mut Turn,
@@ -128,7 +128,7 @@ fn serve_command(
     }
 }
 
-/// A JOIN with a key, or of all that is to be left, goes upstream as it is.
+/// A JOIN with a key, or one that leaves all channels, goes upstream as it is.
 fn join(alloc: Global, turn: &mut Turn, settings: &Settings, line: &Line) -> Result<(), AllocError>
     ensures { OnOk result (turn.new ≡ all_done settings.now.nick turn.old
         (served settings.now.nick line.now ClientCommand.Join)) }

@@ -5,7 +5,7 @@ ghost use Rattle.client_gate.specs.Cuts.{HasNone, IsCutAt};
 
 use std::alloc::{AllocError, Global};
 
-/// What stands between the separators.
+/// What is between the separators.
 pub fn pieces(alloc: Global, bytes: &[u8], separator: u8) -> Result<Vec<&[u8]>, AllocError>
     ensures { IfOk result (λ v. map (λ x. x.now) v.items ≡ pieces separator bytes.now) }
 {
@@ -32,7 +32,7 @@ pub fn words(alloc: Global, text: &[u8]) -> Result<Vec<&[u8]>, AllocError>
     Ok(all)
 }
 
-/// What stands before the first separator, and what follows it.
+/// What comes before the first separator, and what follows it.
 pub fn at_separator(bytes: &[u8], separator: u8) -> Option<(&[u8], &[u8])>
     ensures { MatchOption result (HasNone separator bytes.now)
         (λ t. IsCutAt separator bytes.now t.0.now t.1.now) }

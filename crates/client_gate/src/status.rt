@@ -1,4 +1,4 @@
-//! What a client says to the bouncer itself: words that ask for something.
+//! What a client says to the bouncer itself: words that request something.
 ghost use Rattle.std.specs.Prelude.{◌≡◌, ◌≤◌, map, IfOk, OnOk};
 ghost use Rattle.std.specs.List.{list_all};
 ghost use Rattle.irc_line.specs.Lines.{is_digit};
@@ -16,7 +16,7 @@ use std::alloc::{AllocError, Global};
 
 const UNKNOWN: &[u8] = b"Unknown command.";
 
-/// Does what a text to the bouncer asks for. Words that ask for nothing are noted.
+/// Does what a text to the bouncer requests. Words without a request are noted.
 pub fn tell_status(
     alloc: Global,
     turn: &mut Turn,
@@ -36,7 +36,7 @@ pub fn tell_status(
     }
 }
 
-/// What words ask for.
+/// The request of these words.
 fn asked_by(alloc: Global, words: &[&[u8]]) -> Result<Option<Action>, AllocError>
     ensures { IfOk result (λ o. o ≡ asked_by (map (λ x. x.now) words.now)) }
 {
@@ -98,7 +98,7 @@ fn asked_by_three(
     }
 }
 
-/// Whether a word in letters of either case is this one, which is in upper case.
+/// Whether a word in either case is this one, which is in upper case.
 pub(crate) fn is_spelled(word: &[u8], spelled: &[u8]) -> bool
     ensures { result ≡ is_spelled word.now spelled.now }
 {
@@ -118,7 +118,7 @@ fn upper_byte(b: u8) -> u8
     if b >= b'a' && b <= b'z' { b - 32 } else { b }
 }
 
-/// A number in decimal; one past 65,535 is 65,535.
+/// A number in decimal; above 65,535 it is 65,535.
 fn number_of(digits: &[u8]) -> Option<u16>
     ensures { result ≡ number_of digits.now }
 {
@@ -134,7 +134,7 @@ fn are_digits(bytes: &[u8]) -> bool
     bytes.iter().all(|b| *b >= b'0' && *b <= b'9')
 }
 
-/// The number that digits are behind a number.
+/// The number that the digits make after a number.
 fn number_from(number: u16, digits: &[u8]) -> u16
     ensures { result ≡ number_from number digits.now }
 {

@@ -1,27 +1,27 @@
-//! Words to the bouncer that ask for nothing of the buffers.
+//! Words to the bouncer that make no request to the buffers.
 ghost use Rattle.std.specs.Prelude.{◌≡◌, map};
 ghost use Rattle.client_gate.specs.StatusWords.{said_by, said_by_one, said_by_two};
 
 use crate::status::is_spelled;
 
-/// What a client says to the bouncer by words that ask for nothing of the buffers: the gate says that it knows no
-/// such command, and whoever runs the gate may say more.
+/// What a client says to the bouncer in words that make no request to the buffers. The gate answers that it knows no
+/// such command; whoever runs the gate may say more.
 #[derive(Clone, Copy, Debug, PartialEq, Eq)]
 pub enum StatusWord {
     /// It asks which words there are.
     Help,
-    /// It asks how the bouncer stands.
+    /// It asks for the state of the bouncer.
     Status,
-    /// It asks which clients there are.
+    /// It asks for the clients.
     Clients,
-    /// It asks that nothing more waits to go to the server.
+    /// It asks to drop all lines that wait to go to the server.
     DropWaiting,
-    /// Nobody knows what it asks.
+    /// The words are not known.
     Unknown,
 }
 
 impl StatusWord {
-    /// What such words say.
+    /// The meaning of such words.
     pub(crate) fn of_words(words: &[&[u8]]) -> StatusWord
         ensures { result ≡ said_by (map (λ x. x.now) words.now) }
     {
@@ -32,7 +32,7 @@ impl StatusWord {
         }
     }
 
-    /// What one word says.
+    /// The meaning of one word.
     fn of_one(word: &[u8]) -> StatusWord
         ensures { result ≡ said_by_one word.now }
     {
@@ -47,7 +47,7 @@ impl StatusWord {
         }
     }
 
-    /// What a word says with an argument.
+    /// The meaning of a word with an argument.
     fn of_two(word: &[u8], argument: &[u8]) -> StatusWord
         ensures { result ≡ said_by_two word.now argument.now }
     {

@@ -1,5 +1,5 @@
-//! One call, while it goes on: what it has done so far stands apart from the gate, so that a call
-//! that finds no memory leaves nothing done.
+//! One call, while it runs: what it has done so far is kept apart from the gate, so that a call
+//! that runs out of memory leaves nothing done.
 ghost use Rattle.std.specs.Prelude.{◌≡◌, ◌≤◌, [], ◌^◌, ◌<◌, false, IsTrue, OnOk, codes, map};
 ghost use Rattle.client_gate.specs.Replies.{reply, status};
 ghost use Rattle.client_gate.specs.Outcomes.{IsOutcome};
@@ -15,7 +15,7 @@ use std::alloc::{AllocError, Global};
 use std::marker::Model;
 use wire_bytes::{LAST_NUMBER, Number};
 
-/// The most requests but Leave that may wait.
+/// How many requests may wait, apart from Leave.
 // each is held in memory until it is done, and a person who pastes sends fewer at once
 pub const MOST_WAITING: usize = 100;
 
@@ -25,18 +25,18 @@ const TOO_MANY: &[u8] = b"Too many requests waiting.";
 #[derive(Drop)]
 pub struct Turn {
     phase: Phase,
-    /// How many requests wait, those of this call too.
+    /// How many requests wait, including those of this call.
     waiting: usize,
-    /// The number of the last request, 0 where there was none.
+    /// The number of the last request, 0 before the first.
     numbered: u64,
     requests: Vec<Request>,
     reply: Vec<u8>,
-    /// The words to the bouncer that asked for nothing.
+    /// The words to the bouncer that made no request.
     words: Vec<StatusWord>,
     close: bool,
 }
 
-/// What is left of a call that is over.
+/// What remains of a call that is over.
 #[derive(Drop)]
 pub struct Outcome {
     pub phase: Phase,
@@ -102,14 +102,14 @@ impl Turn {
         self.close
     }
 
-    /// Whether one request more may wait, and there is a number for it.
+    /// Whether one more request may wait, and there is a number for it.
     fn has_room(&self) -> bool
         ensures { result ≡ has_room self.now }
     {
         self.waiting < MOST_WAITING && self.numbered + 1 < LAST_NUMBER
     }
 
-    /// Numbers a request; where there is no room for it, says so to the client.
+    /// Numbers a request; if there is no room for it, says so to the client.
     pub fn ask(&mut self, nick: &Name, action: Action) -> Result<(), AllocError>
         ensures { OnOk result (self.new ≡ asked nick.now action self.old) }
     {
@@ -149,7 +149,7 @@ impl Turn {
         Ok(())
     }
 
-    /// Notes how far the client has come.
+    /// Sets how far the client has come.
     pub fn move_to(&mut self, phase: Phase)
         requires old { has_left self.old.phase ≡ false }
         requires new { has_left phase ≡ false }
@@ -158,14 +158,14 @@ impl Turn {
         self.phase = phase;
     }
 
-    /// Closes the connection behind what was written.
+    /// Closes the connection after what was written.
     pub fn close(&mut self)
         ensures { self.new ≡ closed self.old }
     {
         self.close = true;
     }
 
-    /// Writes a line of the bouncer's own.
+    /// Writes a line of the bouncer itself.
     pub fn reply(&mut self, command: &[u8], parameters: &[&[u8]]) -> Result<(), AllocError>
         ensures { OnOk result (self.new ≡
             written (reply command.now (map (λ x. x.now) parameters.now)) self.old) }
@@ -173,14 +173,14 @@ impl Turn {
         push_reply(&mut self.reply, command, parameters)
     }
 
-    /// Tells the client a text of the bouncer's own.
+    /// Sends the client a text of the bouncer itself.
     pub fn tell(&mut self, nick: &Name, text: &[u8]) -> Result<(), AllocError>
         ensures { OnOk result (self.new ≡ written (status nick.now text.now) self.old) }
     {
         push_status(&mut self.reply, nick, text)
     }
 
-    /// Notes words to the bouncer that asked for nothing.
+    /// Notes words to the bouncer that made no request.
     pub fn note(&mut self, word: StatusWord) -> Result<(), AllocError>
         ensures { OnOk result (self.new ≡ noted word self.old) }
     {
@@ -188,7 +188,7 @@ impl Turn {
         Ok(())
     }
 
-    /// What the call comes to.
+    /// The outcome of the call.
     pub fn finish(self) -> Outcome
         ensures outcome { IsOutcome self result }
         ensures within { IsWithin result.phase self.waiting result.numbered }

@@ -8,7 +8,7 @@ use circular_buffer::HeapCircularBuffer;
 use std::alloc::{AllocError, Global};
 use wire_bytes::Copied;
 
-/// Adds requests behind those that wait, for which there is room.
+/// Adds requests, for which there is room, after those that wait.
 pub fn push_all(waiting: &mut HeapCircularBuffer<Request>, requests: Vec<Request>)
     requires { length waiting.old.items + length requests.items ≤ waiting.old.capacity }
     ensures { waiting.new ≡ buffer (waiting.old.items ++ requests.items) waiting.old.capacity }
@@ -18,7 +18,7 @@ pub fn push_all(waiting: &mut HeapCircularBuffer<Request>, requests: Vec<Request
     }
 }
 
-/// Lets the requests go whose number is not past this one.
+/// Removes the requests whose number is at most this one.
 pub fn drop_answered(waiting: &mut HeapCircularBuffer<Request>, number: u64)
     ensures items { waiting.new ≡ buffer (behind_number number waiting.old.items)
         waiting.old.capacity }
@@ -29,7 +29,7 @@ pub fn drop_answered(waiting: &mut HeapCircularBuffer<Request>, number: u64)
     }
 }
 
-/// Whether one waits whose number is not past this one.
+/// Whether a request waits whose number is at most this one.
 pub fn is_first_answered(waiting: &HeapCircularBuffer<Request>, number: u64) -> bool
     ensures { result ≡ is_first_answered number waiting.now.items }
 {

@@ -22,7 +22,7 @@ fn push_line(
     out.extend_from_slice(b"\r\n")
 }
 
-/// Appends a line of the bouncer's own.
+/// Appends a line of the bouncer itself.
 pub fn push_reply(out: &mut Vec<u8>, command: &[u8], parameters: &[&[u8]]) -> Result<(), AllocError>
     ensures { OnOk result (out.new.items ≡ out.old.items ++
         reply command.now (map (λ x. x.now) parameters.now)) }
@@ -30,7 +30,7 @@ pub fn push_reply(out: &mut Vec<u8>, command: &[u8], parameters: &[&[u8]]) -> Re
     push_line(out, b"bouncer.local", command, parameters)
 }
 
-/// Appends a text of the bouncer's own to a client of this nick.
+/// Appends a text of the bouncer itself to a client of this nick.
 pub fn push_status(out: &mut Vec<u8>, nick: &Name, text: &[u8]) -> Result<(), AllocError>
     ensures { OnOk result (out.new.items ≡ out.old.items ++ status nick.now text.now) }
 {
@@ -52,7 +52,7 @@ pub fn push_shown(out: &mut Vec<u8>, shown: &Shown) -> Result<(), AllocError>
     out.extend_from_slice(b"\r\n")
 }
 
-/// The first bytes, so many where there are.
+/// The first `n` bytes, or all if there are fewer.
 pub fn at_most(bytes: &[u8], n: usize) -> &[u8]
     ensures { result.now ≡ take n bytes.now }
 {

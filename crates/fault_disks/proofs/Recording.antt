@@ -1,4 +1,4 @@
--- What one more call makes of a recorded disk.
+-- What one more call does to a recorded disk.
 use Rattle.std.proofs.Common.{◌≡◌, inl, inr, ◌⊎◌, ⊎_elim, ℕ, suc, ◌+◌, ◌<◌, ◌≤◌, ◌^◌, Bool, true, false, List, [], ◌∷◌, ◌++◌, length, Result, Ok, Err, Vec, refl, sym, ◌∙◌, ap, subst, arith}
 use Rattle.std.specs.Prelude.{if◌then◌else◌, cond, OnOk}
 use Rattle.std.specs.declared.alloc.Global.{Global}
@@ -35,7 +35,7 @@ failed_failed : (calls : List Called) (call : Call) → failed (calls ++ record 
 failed_failed [] call = refl
 failed_failed (c ∷ calls) call = ap (λ (n : ℕ). if c.passed then n else suc n) (failed_failed calls call) ∙ one_more c.passed (failed calls)
 
--- a failure is counted where `Device` is answered
+-- a failure is counted if `Device` is returned
 pub cause_of : {T : Type 0} (r : Result T DiskFault) (call : Call) (old new : Recorded) → IsCalled r call old new → HasCause (failed old.calls) (failed new.calls) r
 cause_of (Ok x) call old new is =
     let same : failed new.calls ≡ failed old.calls = ap (λ (d : Recorded). failed d.calls) is.1 ∙ failed_passed old.calls call in
@@ -56,7 +56,7 @@ outside_not_covered : (place n len i : ℕ) (ranges : List Range) → IsOutside 
 outside_not_covered place n len i [] out = tt
 outside_not_covered place n len i (r ∷ ranges) out = outside_more (is_not_covered place n len r) i r (not_covered place n len ranges) out.0 (outside_not_covered place n len i ranges out.1)
 
--- and one of those is one of all
+-- and each of those is one of all
 one_of_more : (b : Bool) (q r : Range) (more ranges : List Range) → (IsOneOf q more → IsOneOf q ranges) → IsOneOf q (cond b (r ∷ more) more) → IsOneOf q (r ∷ ranges)
 one_of_more true q r more ranges rest h = ⊎_elim (λ a. inl a) (λ b. inr (rest b)) h
 one_of_more false q r more ranges rest h = inr (rest h)
@@ -65,7 +65,7 @@ one_not_covered : (place n len : ℕ) (q : Range) (ranges : List Range) → IsOn
 one_not_covered place n len q [] h = h
 one_not_covered place n len q (r ∷ ranges) h = one_of_more (is_not_covered place n len r) q r (not_covered place n len ranges) ranges (one_not_covered place n len q ranges) h
 
--- what is written over lies within what a write may leave
+-- what a write puts over the bytes is within what it may leave
 written_within : (s : DiskState) (place : ℕ) (bytes : List ℕ) → place ≤ length s.bytes → Within (written place bytes s) (writing place (length bytes) s)
 written_within s place bytes within = record {
   leaves = λ file im. record {
@@ -82,7 +82,7 @@ one_added bound old new s is within = record { added = s ∷ []; joined = is; ea
 none_added : (bound : DiskState) (old new : List DiskState) → new ≡ old → Runs bound old new
 none_added bound old new is = record { added = []; joined = is; each = tt }
 
--- a write, passed or not
+-- a write, whether it passed or not
 pub write_runs : (r : Result (Unit {0}) DiskFault) (old new : Recorded) (place : ℕ) (v : Vec ℕ Global) (bytes : List ℕ) → v.items ≡ bytes → place ≤ length (now (moments old)).bytes → IsCalled r (Write place v) old new
     → Runs (writing place (length bytes) (now (moments old))) (moments old) (moments new)
 write_runs (Ok x) old new place v bytes same within is =
@@ -126,7 +126,7 @@ dropped_within s = record {
   risks = λ r h. ⊎_elim (λ w. absurd w) (λ l. one_of_both r s.written s.left l) h;
 }
 
--- a sync, passed or not
+-- a sync, whether it passed or not
 pub sync_runs : (r : Result (Unit {0}) DiskFault) (old new : Recorded) → IsCalled r Sync old new → Runs (now (moments old)) (moments old) (moments new)
 sync_runs (Ok x) old new is = one_added _ _ _ _ (moments_of old new Sync true is.1) (synced_within (now (moments old)).left (now (moments old)) refl (moments_within old.first old.calls))
 sync_runs (Err Device) old new is = one_added _ _ _ _ (moments_of old new Sync false is.1) (dropped_within (now (moments old)))
@@ -136,13 +136,13 @@ pub sync_synced : (r : Result (Unit {0}) DiskFault) (old new : Recorded) → IsC
 sync_synced (Ok x) old new is = ap now (moments_of old new Sync true is.1)
 sync_synced (Err e) old new is = tt
 
--- a call that only looks
+-- a call that only reads
 pub looked_same : {T : Type 0} (r : Result T DiskFault) (call : Call) (old new : Recorded) → ((passed : Bool) (states : List DiskState) → moments_after call passed states ≡ states) → IsCalled r call old new → moments new ≡ moments old
 looked_same (Ok x) call old new looks is = moments_of old new call true is.1 ∙ looks true (moments old)
 looked_same (Err Device) call old new looks is = moments_of old new call false is.1 ∙ looks false (moments old)
 looked_same (Err Memory) call old new looks is = ap moments is
 
--- the same cause of another result
+-- the same cause for another result
 pub cause_err : {T U : Type 0} (e : DiskFault) (before after : ℕ) → HasCause {T = T} before after (Err e) → HasCause {T = U} before after (Err e)
 cause_err Device before after h = record { later = h.later; failed = λ is. h.failed refl; lacked = λ is. absurd cc; passed = tt }
 cause_err Memory before after h = record { later = h.later; failed = λ is. absurd cc; lacked = λ is. h.lacked refl; passed = tt }

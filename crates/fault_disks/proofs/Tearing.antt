@@ -1,4 +1,4 @@
--- A file of which all that is not synced is overwritten is one that a crash may leave.
+-- A file in which all that is not synced is overwritten is one that a crash may leave.
 use Rattle.std.proofs.Common.{◌≡◌, ⊎_elim, ℕ, zero, suc, ◌+◌, ◌-◌, ◌<◌, Bool, true, false, List, [], ◌∷◌, ◌++◌, length, get_or, refl, sym, ◌∙◌, ap, arith, append_assoc}
 use Rattle.std.specs.Prelude.{nat_lt, nat_le, ◌&&◌, ◌||◌}
 use Rattle.std.proofs.lemmas.Bool.{and_from, lt-ltb, le-leb}
@@ -43,7 +43,7 @@ left_image (Overwritten byte) s h = record {
   stays = λ i lt below out left. byte_at byte s 0 s.most i (omega (arith, lt, size byte s 0 s.most)) ∙ (ap (byte_left byte s) (let e : 0 + i ≡ i = omega arith in e) ∙ kept byte s i below out left);
 }
 
--- one byte more of the file
+-- one more byte of the file
 pub goes_on : (byte : ℕ) (s : DiskState) (items more : List ℕ) (i : ℕ) → i < s.most → items ++ bytes_left byte s i (s.most - i) ≡ bytes_left byte s 0 s.most → more ≡ items ++ byte_left byte s i ∷ []
     → more ++ bytes_left byte s (i + 1) (s.most - (i + 1)) ≡ bytes_left byte s 0 s.most
 goes_on byte s items more i lt so_far is =

@@ -1,4 +1,4 @@
--- What a disk in memory keeps of the laws of its trait. These lemmas need not be believed.
+-- A disk in memory obeys the laws of its trait. These lemmas need not be trusted.
 use Rattle.std.proofs.Common.{◌≡◌, ℕ, suc, ◌+◌, ◌≤◌, Bool, true, false, List, [], ◌∷◌, ◌++◌, length, take, drop, refl, sym, ◌∙◌, ap, subst, arith, length-append}
 use Rattle.std.specs.Prelude.{if◌then◌else◌}
 use Rattle.std.proofs.lemmas.List.{length-take, length-drop}
@@ -54,7 +54,7 @@ moments_within first calls =
 pub own_image : (first : List ℕ) (calls : List Called) → let s = now (moments_from (settled_at first ∷ []) calls) in IsImage s s.bytes
 own_image first calls = let h = moments_within first calls in record { no_shorter = h.least; no_longer = h.most; stays = λ i lt below out left. refl }
 
--- where no call failed, no sync has left anything
+-- if no call failed, no sync has left anything
 after_passed : (call : Call) (s : DiskState) → s.left ≡ [] → (state_after call true s).left ≡ []
 after_passed Len s none = none
 after_passed (Read place len) s none = none

@@ -1,4 +1,4 @@
--- What the calls of a disk make of it, and which of them fail.
+-- What the calls of a disk do to it, and which of them fail.
 use Rattle.std.specs.Prelude.{◌≡◌, ℕ, suc, ◌+◌, ◌==◌, ◌&&◌, Bool, true, false, not, max, nat_lt, if◌then◌else◌, List, [], ◌∷◌, ◌++◌, length, Result, Ok, Err}
 use Rattle.journal_store.specs.Disks.{DiskState, not_covered, now, settled_at, synced, writing, written_over}
 use Rattle.journal_store.specs.declared.disk_fault.DiskFault.{DiskFault}
@@ -16,12 +16,12 @@ passes (From first) call = nat_lt call first
 passes (Once one) call = not (call == one)
 passes (Both one other) call = not (call == one) && not (call == other)
 
--- so many of these calls failed
+-- this many of these calls failed
 abbrev pub failed : List Called → ℕ
 failed [] = 0
 failed (c ∷ calls) = if c.passed then failed calls else suc (failed calls)
 
--- the bytes are written over, and not synced
+-- the bytes are overwritten, and not synced
 abbrev pub written : ℕ → List ℕ → DiskState → DiskState
 written place bytes s =
     let now = written_over s.bytes place bytes in
@@ -34,11 +34,11 @@ written place bytes s =
       most = max s.most (place + length bytes);
     }
 
--- what was written is dropped, though it is read still
+-- what was written is dropped, though a read still gives it
 abbrev pub dropped : DiskState → DiskState
 dropped s = record { bytes = s.bytes; written = []; left = s.written ++ s.left; settled = s.settled; least = s.least; most = s.most }
 
--- The state after a call, where this is whether it passed. A write that fails changes nothing that is read, but a crash may leave
+-- The state after a call, by whether it passed. A write that fails changes nothing that is read, but a crash may leave
 -- anything in its place. A sync that fails drops what was written. Any other call that fails does nothing.
 abbrev pub state_after : Call → Bool → DiskState → DiskState
 state_after Len passed s = s
@@ -48,7 +48,7 @@ state_after (Write place bytes) false s = writing place (length bytes.items) s
 state_after Sync true s = synced s
 state_after Sync false s = dropped s
 
--- the same of the moments so far, the newest first
+-- the same for the moments so far, the newest first
 abbrev pub moments_after : Call → Bool → List DiskState → List DiskState
 moments_after Len passed states = states
 moments_after (Read place len) passed states = states
@@ -79,7 +79,7 @@ moments d = moments_from (settled_at d.first ∷ []) d.calls
 abbrev pub recorded : Recorded → Call → Bool → Recorded
 recorded d call passed = record { first = d.first; calls = d.calls ++ record { call = call; passed = passed } ∷ []; fails = d.fails }
 
--- a call passed or failed as was told, and is recorded; or memory was wanting, and nothing was done
+-- a call passed or failed as planned, and is recorded; or memory ran out, and nothing was done
 abbrev pub IsCalled : {T : Type 0} → Result T DiskFault → Call → Recorded → Recorded → Type 0
 IsCalled (Ok x) call old new = (passes old.fails (length old.calls) ≡ true) × (new ≡ recorded old call true)
 IsCalled (Err Device) call old new = (passes old.fails (length old.calls) ≡ false) × (new ≡ recorded old call false)

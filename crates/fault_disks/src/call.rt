@@ -1,8 +1,8 @@
-/// What a disk was asked.
+/// A call of a disk.
 #[derive(Drop)]
 pub enum Call {
     Len,
-    /// So many bytes from a place on.
+    /// This many bytes from a place on.
     Read(usize, usize),
     /// These bytes from a place on.
     Write(usize, Vec<u8>),

@@ -6,12 +6,12 @@ use crate::span::is_outside;
 use crate::state::State;
 use std::alloc::{AllocError, Global};
 
-/// What a crash makes of all that is not synced.
+/// What a crash does to all that is not synced.
 #[derive(Clone, Copy, Debug, Drop, PartialEq, Eq)]
 pub enum Unsynced {
     /// It is as it is read.
     Kept,
-    /// Each byte of it is this one, and the file is as long as it may be.
+    /// Each of its bytes is this one, and the file is as long as it may be.
     Overwritten(u8),
 }
 

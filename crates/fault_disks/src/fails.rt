@@ -7,7 +7,7 @@ pub enum Fails {
     Never,
     /// All calls from this one on.
     From(usize),
-    /// This call alone.
+    /// Only this call.
     Once(usize),
     /// These two calls.
     Both(usize, usize),

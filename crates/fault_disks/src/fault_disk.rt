@@ -1,4 +1,4 @@
-//! A disk in memory that fails as it is told.
+//! A disk in memory that fails as planned.
 ghost use Rattle.std.specs.Prelude.{◌≡◌, ◌≤◌, [], length, IfOk, IfErr};
 ghost use Rattle.journal_store.specs.Disks.{now, IsImage};
 ghost use Rattle.fault_disks.specs.Calls.{failed, moments, IsCalled};
@@ -12,14 +12,15 @@ use journal_store::{Disk, DiskFault};
 use std::alloc::{AllocError, Global};
 use std::marker::Model;
 
-/// What is written at once has to be shorter, and to lie below this.
+/// What is written at once must be shorter, and must be below this.
+// so that a file ends below 2^63, as the laws of a disk say
 const LIMIT: usize = 1 << 62;
 
-/// A disk in memory that keeps a record of its calls and is what they made of its file. It is honest: a
-/// call that fails says so. A write that fails changes nothing that is read, but a crash may tear its
-/// place. A sync that fails drops what was written since the last one: it is read still, but a crash may
-/// leave anything there, also once a later sync passed, until a write covers it. Any other call that fails
-/// does nothing. Each call goes over the whole record.
+/// A disk in memory that keeps a record of its calls, from which its state follows. It is honest: a call that fails
+/// says so. A write that fails changes nothing that is read, but a crash may tear its place. A sync that fails drops
+/// what was written since the last one: a read still gives it, but a crash may leave anything there, also after a later
+/// sync that passed, until a write covers it. Any other call that fails does nothing. Each call goes over the whole
+/// record.
 #[derive(Drop)]
 pub struct FaultDisk {
     alloc: Global,
@@ -37,7 +38,7 @@ impl Model for FaultDisk {
 }
 
 impl FaultDisk {
-    /// A disk whose file has these bytes, synced, and of which these calls fail.
+    /// A disk whose file has these bytes, synced, and whose calls fail as this says.
     pub fn new(alloc: Global, file: Vec<u8>, fails: Fails) -> Self
         ensures { result ≡ record { first = file.items; calls = []; fails = fails } }
     {
@@ -56,7 +57,7 @@ impl FaultDisk {
         self.calls.as_slice()
     }
 
-    /// The file that a crash now leaves.
+    /// The file that a crash at this moment leaves.
     pub fn crashed(&self, unsynced: Unsynced) -> Result<Vec<u8>, DiskFault>
         ensures value { IfOk result (λ v. v.items ≡ left_by unsynced (now (moments self.now))) }
         ensures image { IfOk result (λ v. IsImage (now (moments self.now)) v.items) }
@@ -65,7 +66,7 @@ impl FaultDisk {
         Ok(left_by(self.alloc, self.state()?, unsynced)?)
     }
 
-    /// What its calls have made of it.
+    /// The state that its calls have led to.
     fn state(&self) -> Result<State, DiskFault>
         ensures ok { IfOk result (λ s. s ≡ now (moments self.now)) }
         ensures memory { IfErr result (λ e. e ≡ DiskFault.Memory) }

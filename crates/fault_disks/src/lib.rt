@@ -1,6 +1,5 @@
-//! Disks for tests, of which some calls fail and whose files a crash may tear.
-//! Stands under world_cases.
-//! Calls fail as was told, and no others; what such a disk says that a crash leaves is a file that a crash may leave.
+//! Disks for tests, of which some calls fail and whose files a crash may tear. Used by world_cases. Calls fail as
+//! planned, and no others; the files that such a disk says a crash leaves are files that a crash may leave.
 #![tactic(auto)]
 
 mod call;

@@ -6,7 +6,7 @@ ghost use Rattle.fault_disks.specs.Images.{is_outside};
 use std::alloc::{AllocError, Global};
 use std::marker::Model;
 
-/// So many bytes from a place on.
+/// This many bytes from a place on.
 #[derive(Clone, Copy)]
 pub struct Span {
     pub place: usize,
@@ -23,7 +23,7 @@ impl Model for Span {
     ghost inverse = { λ r. record { place = r.place; size = r.size } };
 }
 
-/// Whether a place lies in none of these.
+/// Whether a place is in none of these.
 pub fn is_outside(place: usize, spans: &[Span]) -> bool
     ensures { result ≡ is_outside place spans.now }
 {
@@ -44,7 +44,7 @@ fn is_not_covered(write: Span, len: usize, span: Span) -> bool
     !(write.place <= span.place && end <= write.place + write.size)
 }
 
-/// Those of these spans that a write does not cover, after which the file has this length.
+/// The ones among these spans that a write does not cover, after which the file has this length.
 pub fn not_covered(
     alloc: Global,
     write: Span,

@@ -1,4 +1,4 @@
-//! What a record of calls has made of a disk.
+//! The state of a disk after a record of calls.
 ghost use Rattle.std.specs.Prelude.{◌≡◌, ◌+◌, ◌∷◌, length, if◌then◌else◌, IfOk, IfErr};
 ghost use Rattle.journal_store.specs.Disks.{not_covered, settled_at, synced, writing, written_over};
 ghost use Rattle.fault_disks.specs.Calls.{dropped, replayed, state_after, written};
@@ -17,11 +17,11 @@ pub struct State {
     pub written: Vec<Span>,
     /// The spans that a failed sync dropped, and that no write has covered since.
     pub left: Vec<Span>,
-    /// The file's end when all was synced last.
+    /// Where the file's end was when all was last synced.
     pub settled: usize,
-    /// The least of the lengths since then.
+    /// The least length since then.
     pub least: usize,
-    /// The greatest.
+    /// The greatest length since then.
     pub most: usize,
 }
 
@@ -87,7 +87,7 @@ fn after(alloc: Global, state: State, called: &Called) -> Result<State, DiskFaul
     }
 }
 
-/// All that was written is synced, and nothing that was dropped.
+/// Syncs all that was written, but nothing that was dropped.
 fn sync(alloc: Global, state: State) -> State
     ensures { result ≡ synced state }
 {
@@ -99,7 +99,7 @@ fn sync(alloc: Global, state: State) -> State
     state
 }
 
-/// A sync failed: what was written is dropped.
+/// Drops what was written: a sync failed.
 fn drop_written(alloc: Global, state: State) -> Result<State, AllocError>
     ensures { IfOk result (λ s. s ≡ dropped state) }
 {
@@ -111,7 +111,7 @@ fn drop_written(alloc: Global, state: State) -> Result<State, AllocError>
     Ok(state)
 }
 
-/// Bytes are written, or fail to be.
+/// Writes bytes, or fails to.
 fn write(
     alloc: Global,
     state: State,

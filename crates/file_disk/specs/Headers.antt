@@ -1,15 +1,15 @@
--- The header of a journal of the older version, in whose place that of the newer one comes.
+-- The header of a journal of the older version, which is replaced by that of the newer one.
 use Rattle.std.specs.Prelude.{◌≡◌, ℕ, List, ◌++◌, if◌then◌else◌, drop}
 use Rattle.wire_bytes.specs.Fields.{Reading}
 use Rattle.stable_store.specs.Stores.{nothing_saved}
 use Rattle.journal_store.specs.Journals.{begins, found, header, name, older_version}
 use Rattle.journal_store.specs.Payloads.{payloads}
 
--- what a journal begins with that was made before clients had names
+-- what a journal begins with if it was made before clients had names
 abbrev pub older_header : List ℕ
 older_header = name ++ older_version
 
--- a file that begins with the older header begins with the newer one, and goes on as it did
+-- a file that began with the older header begins with the newer one, and the rest is unchanged
 abbrev pub renewed : List ℕ → List ℕ
 renewed bytes = if begins older_header bytes then header ++ drop 8 bytes else bytes
 

@@ -6,12 +6,12 @@ ghost use Rattle.journal_store.specs.Disks.{now, writing};
 
 use std::io;
 
-/// An open file, as a disk asks it.
+/// An open file, as a disk uses it.
 ///
-/// Its laws hold where it is honest. A call that fails may have done any part of its work. A sync that fails may
-/// drop what it should have written, as `Disk` says.
+/// Its laws hold if it is honest. A call that fails may have done any part of its work. A sync that fails may drop what
+/// it should have written, as `Disk` says.
 pub trait DiskFile: Drop {
-    /// Whether it keeps what it is told, which no call changes.
+    /// Whether it keeps what is written to it, which no call changes.
     ghost honest: { Self → Bool };
 
     /// The state at each moment so far, the newest first.
@@ -25,15 +25,15 @@ pub trait DiskFile: Drop {
         ensures same { IsTrue (honest self.old) → states self.new ≡ states self.old }
         ensures honest { honest self.new ≡ honest self.old };
 
-    /// Fills a buffer with the bytes from a place on. An error where there are not so many.
+    /// Fills a buffer with the bytes from a place on. An error if there are not as many.
     fn fill(&mut self, place: u64, buffer: &mut [u8]) -> io::Result<()>
         ensures bytes { IsTrue (honest self.old) → OnOk result
             (buffer.new ≡ take (length buffer.old) (drop place (now (states self.old)).bytes)) }
         ensures same { IsTrue (honest self.old) → states self.new ≡ states self.old }
         ensures honest { honest self.new ≡ honest self.old };
 
-    /// Writes all of these bytes from a place on, over those that are there and past the end. Until a
-    /// sync a crash may leave anything in their place.
+    /// Writes all of these bytes from a place on, over those that are there and past the end. Until a sync a crash may
+    /// leave anything in their place.
     fn write(&mut self, place: u64, bytes: &[u8]) -> io::Result<()>
         requires { IsTrue (honest self.old) → place ≤ length (now (states self.old)).bytes }
         ensures runs { IsTrue (honest self.old)
@@ -43,8 +43,8 @@ pub trait DiskFile: Drop {
             → OnOk result (IsWritten place bytes.now (states self.old) (states self.new)) }
         ensures honest { honest self.new ≡ honest self.old };
 
-    /// After Ok a crash leaves what was written since the last call of sync, and where no failed one left
-    /// anything, all that a read gives.
+    /// After Ok a crash leaves what was written since the last call of sync and, if no failed one left anything, all
+    /// that a read gives.
     fn sync(&mut self) -> io::Result<()>
         ensures runs { IsTrue (honest self.old)
             → Runs (now (states self.old)) (states self.old) (states self.new) }

@@ -9,7 +9,7 @@ use journal_store::{Disk, DiskFault};
 use std::alloc::Global;
 use std::marker::Model;
 
-/// A disk over an open file, which counts the calls of the file that fail. It is honest where its file is.
+/// A disk over an open file, which counts the calls of the file that fail. It is honest if its file is.
 #[derive(Drop)]
 pub struct FileDisk<F: DiskFile> {
     pub(crate) file: F,
@@ -40,7 +40,7 @@ impl<F: DiskFile> FileDisk<F> {
     }
 }
 
-/// Counts a call that failed, and answers that.
+/// Counts a call that failed, and returns its fault.
 fn failed<T>(failures: &mut u64) -> Result<T, DiskFault>
     ensures answer { result ≡ Err Device }
     ensures cause { HasCause failures.old failures.new result }

@@ -1,9 +1,9 @@
-//! Which file of the system one is.
+//! The identity of a file of the system.
 use std::fs::{self, File, Files, Metadata};
 use std::io;
 use std::os::unix::fs::MetadataExt;
 
-/// Which file of the system one is, whatever its path: no two files that are there at one time have the same.
+/// The identity of a file of the system, whatever its path: no two files that exist at one time have the same.
 #[derive(Clone, Copy, Debug, PartialEq, Eq)]
 pub struct FileId {
     device: u64,
@@ -11,12 +11,12 @@ pub struct FileId {
 }
 
 impl FileId {
-    /// Of a file that is open.
+    /// That of an open file.
     pub fn of(file: &File) -> io::Result<FileId> {
         Ok(FileId::of_metadata(&file.metadata()?))
     }
 
-    /// Of the file to which a path leads now.
+    /// That of the file to which a path now leads.
     pub fn at<R: Files>(rt: &R, path: &str) -> io::Result<FileId> {
         Ok(FileId::of_metadata(&fs::metadata(rt, path)?))
     }

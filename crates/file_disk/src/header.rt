@@ -8,7 +8,7 @@ use journal_store::{Disk, DiskFault};
 use std::alloc::Global;
 use wire_bytes::Wire;
 
-/// What a journal begins with that was made before clients had names.
+/// What a journal begins with if it was made before clients had names.
 const OLDER: [u8; 8] = *b"RBSTOR01";
 
 /// The place of the digit in which the two versions differ.
@@ -28,9 +28,9 @@ pub fn is_older<D: Disk>(alloc: Global, disk: &mut D) -> Result<bool, DiskFault>
     Ok(head.as_slice() == OLDER.as_slice())
 }
 
-/// The header of the older version becomes that of the newer one, synced: a program that knows the older one alone
-/// refuses the journal as of another version from then on, and never takes what it does not know for damage. One byte
-/// is written, of which a disk has the old value or the new one after a crash.
+/// Replaces the header of the older version by that of the newer one, synced. From then on a program that knows only
+/// the older version refuses the journal as one of another version, and never mistakes what it does not know for
+/// damage. One byte is written; after a crash the disk has its old value or the new one.
 pub fn renew_header<D: Disk>(alloc: Global, disk: &mut D) -> Result<(), DiskFault>
     ensures bytes { IsTrue (D.honest disk.old) → OnOk result
         ((now (D.states disk.new)).bytes ≡ renewed (now (D.states disk.old)).bytes) }

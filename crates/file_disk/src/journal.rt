@@ -17,8 +17,8 @@ use wire_bytes::Wire;
 /// A store in a journal over a file of the system.
 pub type FileJournal<B> = JournalStore<B, FileDisk<SystemFile>>;
 
-/// The most bytes of a journal in which nothing may be saved: those of an empty one, and of a first save that a
-/// crash cut off.
+/// The most bytes of a journal in which nothing may be saved: those of an empty one, and of a first save that a crash
+/// cut off.
 const MOST_NEW: u64 = 64;
 
 /// Whether a journal's file is so short that nothing may be saved in it.
@@ -26,10 +26,10 @@ pub fn may_be_new<B: Wire>(journal: &FileJournal<B>) -> io::Result<bool> {
     Ok(journal.disk().file.len()? <= MOST_NEW)
 }
 
-/// The store in the journal of a path, which is made where it is not there, or has at most 9 bytes and is
-/// refused, and locked until the store is dropped. A journal that is headed by the older version is headed by the
-/// newer one from then on, once all of it was read. Full blocks of entries that another log has at the same places
-/// are one value in memory with it. Where it fails, a file that it made is removed.
+/// The store in the journal of a path, which is made if it does not exist, or if it has at most 9 bytes and is refused,
+/// and which is locked until the store is dropped. A journal with the header of the older version gets that of the
+/// newer one, once all of it was read. Full blocks of entries that another log has at the same places are shared with
+/// it in memory. If it fails, a file that it made is removed.
 pub fn open_journal<B: Wire, R: Files<File = File>>(
     rt: &R,
     alloc: Global,
@@ -42,7 +42,7 @@ pub fn open_journal<B: Wire, R: Files<File = File>>(
     over(rt, alloc, path, disk, beside)
 }
 
-/// The store in the journal of a path where a file is there, as `open_journal` says: none is made. Why a call of the file
+/// The store in the journal of a path if the file exists, as for `open_journal`: none is made. Why a call of the file
 /// fails is noted in `last_error`.
 pub fn open_journal_late<B: Wire, R: Files<File = File>>(
     rt: &R,
@@ -85,7 +85,7 @@ fn over<B: Wire, R: Files<File = File>>(
     }
 }
 
-/// The store on a disk, whose header is that of the newer version once all of it was read.
+/// The store on a disk, which gets the header of the newer version once all of it was read.
 fn adopt<B: Wire, D: Disk>(
     alloc: Global,
     disk: D,

@@ -1,4 +1,4 @@
-//! Why a call of a file failed last.
+//! The last error of a file's calls.
 ghost use Rattle.std.specs.Prelude.{◌≡◌, ◌≢◌};
 
 use std::alloc::{AllocError, Global};
@@ -6,14 +6,14 @@ use std::io;
 use std::sync::Arc;
 use std::sync::atomic::{AtomicU32, Ordering};
 
-/// In place of a code: a call failed, and the system told no code.
+/// In place of a code: a call failed, and the system gave no code.
 const UNTOLD: u32 = u32::MAX;
 
-/// Why a call of a file failed last, for whoever tells an operator of it. Another thread may change it at any
-/// time, so that no clause says what it is.
+/// The last error of a file's calls, for reports to an operator. Another thread may change it at any time, so that no
+/// clause says what it is.
 #[derive(Drop)]
 pub struct LastError {
-    /// The code of the system's error, or `UNTOLD`; 0 where no call has failed.
+    /// The code of the system's error, or `UNTOLD`; 0 if no call has failed.
     code: Arc<AtomicU32, Global>,
 }
 
@@ -32,7 +32,7 @@ impl LastError {
         })
     }
 
-    /// The last error, if a call failed for one of the system's.
+    /// The last error, if a call failed with one of the system's.
     pub fn get(&self) -> Option<io::Error> {
         match i32::try_from(self.code.load(Ordering::SeqCst)) {
             Ok(0) | Err(_) => None,
@@ -40,12 +40,12 @@ impl LastError {
         }
     }
 
-    /// Whether a call failed, also one of which the system told no error.
+    /// Whether a call failed, also one for which the system gave no error.
     pub fn is_met(&self) -> bool {
         self.code.load(Ordering::SeqCst) != 0
     }
 
-    /// What a call answers is noted, and answered.
+    /// Notes the result of a call, and returns it.
     pub(crate) fn note<T>(&self, answer: io::Result<T>) -> io::Result<T>
         ensures { result ≡ answer }
     {
@@ -55,13 +55,13 @@ impl LastError {
         answer
     }
 
-    /// A call failed for this error.
+    /// Notes that a call failed with this error.
     pub fn note_error(&self, error: &io::Error) {
         self.code.store(code_of(error), Ordering::SeqCst);
     }
 }
 
-/// The code by which an error is noted, which is not 0.
+/// The code with which an error is noted, which is not 0.
 fn code_of(error: &io::Error) -> u32
     ensures { result ≢ 0 }
 {

@@ -1,9 +1,8 @@
-//! A disk over a file of the system, and the journal in it.
-//! Stands under bouncer_run and bouncer_bench.
+//! A disk over a file of the system, and the journal in it. Used by bouncer_run and bouncer_bench.
 //!
-//! No contract can say what a file of the system holds. So the laws of a disk are proved of a `FileDisk`
-//! over any file whose calls are honest, as `DiskFile` states that, and a file of the system makes each
-//! call that `DiskFile` names as one call of its own, of which nothing is known.
+//! No contract can say what a file of the system holds. So the laws of a disk are proved for a `FileDisk` over any file
+//! whose calls are honest, as `DiskFile` states it, and a file of the system makes each call that `DiskFile` names as
+//! one call of its own, of which nothing is known.
 #![tactic(auto)]
 
 mod copied_file;

@@ -1,12 +1,12 @@
-//! Files that one disk alone has open.
+//! Files that only one disk has open.
 use crate::open_fault::OpenFault;
 use std::fs::{File, TryLockError};
 use std::os::fd::AsRawFd;
 
-/// A file that was opened, locked until its last handle is dropped, or the program ends.
+/// An opened file, locked until its last handle is dropped, or the program ends.
 pub fn locked(file: File) -> Result<File, OpenFault> {
     let mut file = file;
-    // what is printed to a standard stream that was closed must not land in the file
+    // what is printed to a standard stream that was closed must not end up in the file
     if file.as_raw_fd() <= 2 {
         file = file.try_clone()?;
     }

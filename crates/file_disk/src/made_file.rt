@@ -1,11 +1,11 @@
-//! Files that were made, and may be removed again.
+//! Files that were made, and can be removed again.
 use crate::file_id::FileId;
 use std::alloc::Global;
 use std::fs::{self, File, Files};
 use std::io;
 
-/// A file that was made, held open until this is dropped: its lock is held too, so that nobody else saves
-/// anything in it meanwhile.
+/// A file that was made, held open until this is dropped: its lock is held too, so that until then nobody else saves
+/// anything in it.
 #[derive(Drop)]
 pub struct MadeFile {
     file: File,
@@ -21,13 +21,13 @@ impl MadeFile {
         })
     }
 
-    /// The file is gone from its path. Another file that lies there by now stays.
+    /// Removes the file from its path. If another file is there by now, that one stays.
     pub fn remove<R: Files>(&self, rt: &R) -> io::Result<()> {
         remove_file(rt, self.path.as_str(), &self.file)
     }
 }
 
-/// A file that is open is gone from its path. Another file that lies there by now stays.
+/// Removes an open file from its path. If another file is there by now, that one stays.
 pub fn remove_file<R: Files>(rt: &R, path: &str, file: &File) -> io::Result<()> {
     if FileId::at(rt, path)? == FileId::of(file)? {
         fs::remove_file(rt, path)?;

@@ -21,7 +21,7 @@ pub enum OpenFault {
 }
 
 impl OpenFault {
-    /// A store is not opened. Where its device failed, this is the system's error, if it told one.
+    /// A store was not opened. If its device failed, this has the system's error, if it gave one.
     pub fn of_store(fault: StoreFault, last_error: Option<io::Error>) -> OpenFault
         ensures { result ≡ of_store System fault last_error }
     {
@@ -31,7 +31,7 @@ impl OpenFault {
         }
     }
 
-    /// Whether this is want of memory, also where the system tells it.
+    /// Whether memory ran out, also if the system says so.
     pub fn is_memory(&self) -> bool {
         match self {
             OpenFault::System(error) => error.kind() == ErrorKind::OutOfMemory,

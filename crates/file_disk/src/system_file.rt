@@ -16,21 +16,21 @@ use std::io::{self, ErrorKind};
 use std::os::unix::fs::{FileExt, OpenOptionsExt};
 use std::path::Path;
 
-/// Nobody but its owner reads a journal.
+/// Only its owner can read a journal.
 const OWNERS: u32 = 0o600;
 
-/// In a file that is no longer nothing can be saved: so long is an empty journal.
+/// The length of an empty journal: nothing can be saved in a file that is no longer.
 const EMPTY_LEN: u64 = 9;
 
-/// A file of the system, and why a call of it failed last.
+/// A file of the system, and its last error.
 #[derive(Drop)]
 pub struct SystemFile {
     file: File,
     last_error: LastError,
-    /// Whether it was made as it was opened, and had nothing in it when it was locked.
+    /// Whether it was made when it was opened, and was empty when it was locked.
     is_made: bool,
-    /// The file that lay at its path before. Its lock is held too, so that a program that opened it a moment before
-    /// this one took its place finds it in use.
+    /// The file that was at its path before. Its lock is held too, so that a program that opened it just before this
+    /// one replaced it finds it in use.
     before: Option<File>,
 }
 
@@ -70,14 +70,13 @@ impl DiskFile for SystemFile {
 }
 
 impl FileDisk<SystemFile> {
-    /// The file of a path, which is made where it is not there, and locked until the disk is dropped. Its
-    /// folder is synced, so that a crash leaves the file there. `InUse` where it is open as a disk
-    /// already, in this program or another; `NotAFile` where the path names something else. Where it
-    /// fails, a file that it made is removed.
+    /// The file of a path, which is made if it does not exist, and locked until the disk is dropped. Its folder is
+    /// synced, so that a crash leaves the file there. `InUse` if it is already open as a disk, in this program or
+    /// another; `NotAFile` if the path names something else. If it fails, a file that it made is removed.
     ///
-    /// A file that was there, and in which something may be saved, is copied, and the copy takes its place: it may have
-    /// bytes that an earlier run did not bring to the device, and that the system shows all the same. Where that
-    /// fails the file stays as it is.
+    /// A file that existed, and in which something may be saved, is copied, and the copy replaces it: it may have bytes
+    /// that an earlier run did not bring to the device, and that the system still shows. If that fails the file stays
+    /// as it is.
     pub fn open<R: Files<File = File>>(rt: &R, alloc: Global, path: &str) -> Result<Self, OpenFault>
         ensures { IfOk result (λ d. d.failures ≡ 0) }
     {
@@ -101,8 +100,8 @@ impl FileDisk<SystemFile> {
         over(rt, path, opened, none(alloc)?)
     }
 
-    /// The file of a path that is there, as `open` says. None is made: an error of the system tells that none is there.
-    /// Why a call of the file fails is noted in `last_error`.
+    /// The file of a path if it exists, as for `open`. None is made: if there is none, the system's error says so. Why
+    /// a call of the file fails is noted in `last_error`.
     pub fn open_late<R: Files<File = File>>(
         rt: &R,
         alloc: Global,
@@ -115,8 +114,8 @@ impl FileDisk<SystemFile> {
         over_copy(rt, alloc, path, locked(file)?, last_error)
     }
 
-    /// The file of a path that is there, locked until the disk is dropped, as `open` says. None is made: an error of
-    /// the system tells that none is there.
+    /// The file of a path if it exists, locked until the disk is dropped, as for `open`. None is made: if there is
+    /// none, the system's error says so.
     pub fn open_existing<R: Files<File = File>>(
         rt: &R,
         alloc: Global,
@@ -133,24 +132,24 @@ impl FileDisk<SystemFile> {
         over(rt, path, opened, none(alloc)?)
     }
 
-    /// Why a call of its file failed last, now and later on.
+    /// The last error of its file's calls, now and later on.
     pub fn last_error(&self) -> Result<LastError, AllocError> {
         self.file.last_error.share()
     }
 
-    /// Which file it is.
+    /// The identity of its file.
     pub fn file_id(&self) -> io::Result<FileId> {
         FileId::of(&self.file.file)
     }
 
-    /// The file is gone from this path, if it was made as the disk was opened there.
+    /// Removes the file from this path, if it was made when the disk was opened there.
     pub fn remove_made<R: Files>(&self, rt: &R, path: &str) {
         if self.file.is_made {
             let _ = remove_file(rt, path, &self.file.file);
         }
     }
 
-    /// The file, if it was made as the disk was opened at this path, so that it may be removed again.
+    /// The file, if it was made when the disk was opened at this path, so that it can be removed again.
     pub fn made(&self, alloc: Global, path: &str) -> io::Result<Option<MadeFile>> {
         if !self.file.is_made {
             return Ok(None);
@@ -159,7 +158,7 @@ impl FileDisk<SystemFile> {
     }
 }
 
-/// Whether something lies at a path, also a link that leads nowhere. Where the system does not tell that nothing does,
+/// Whether there is anything at a path, also a link that leads nowhere. Unless the system says that there is nothing,
 /// it counts as there.
 fn is_there<R: Files>(rt: &R, path: &str) -> bool {
     match fs::symlink_metadata(rt, path) {
@@ -168,8 +167,8 @@ fn is_there<R: Files>(rt: &R, path: &str) -> bool {
     }
 }
 
-/// Whether a file was made as it was opened. One that another program made at the same moment, and saved something
-/// in, was not.
+/// Whether a file was made when it was opened. One that another program made at the same moment, and in which it saved
+/// something, was not.
 fn is_made(was_there: bool, len: u64) -> bool
     ensures { result ≡ (not was_there && len == 0) }
 {
@@ -205,12 +204,12 @@ fn over_copy<R: Files<File = File>>(
 #[derive(Drop)]
 struct Opened {
     file: File,
-    /// The file that lay there before, of which it is a copy.
+    /// The file that was there before, of which it is a copy.
     before: Option<File>,
     is_made: bool,
 }
 
-/// A disk over a file that was opened at a path. Where it fails, the file is removed if it was made.
+/// A disk over a file that was opened at a path. If it fails, the file is removed if it was made.
 fn over<R: Files<File = File>>(
     rt: &R,
     path: &str,
@@ -240,7 +239,7 @@ fn over<R: Files<File = File>>(
     }
 }
 
-/// A crash leaves a file at its path.
+/// Makes sure that a crash leaves a file at its path.
 fn settle<R: Files<File = File>>(rt: &R, path: &str, file: &File) -> io::Result<()> {
     file.sync_all()?;
     sync_folder(rt, path)
@@ -251,7 +250,7 @@ fn none(alloc: Global) -> Result<LastError, OpenFault> {
     LastError::none(alloc).map_err(|_| OpenFault::Store(StoreFault::Memory))
 }
 
-/// Syncs the folder in which a path lies.
+/// Syncs the folder of a path.
 fn sync_folder<R: Files<File = File>>(rt: &R, path: &str) -> io::Result<()> {
     let folder = match Path::new(path).parent() {
         Some(folder) if !folder.as_str().is_empty() => folder.as_str(),

@@ -2,16 +2,16 @@
 
 use std::alloc::{AllocError, Global};
 
-/// The nick of one who gives none.
+/// The nick of a person who gives none.
 pub const NICK: &str = "me";
 
-/// Where the server of one is who names none: on this machine, or the end of a tunnel.
+/// The server of a person who names none: on this machine, or the end of a tunnel.
 pub const SERVER: &str = "127.0.0.1:6667";
 
-/// The channel of one who names none.
+/// The channel of a person who names none.
 pub const CHANNEL: &str = "#hukbarg";
 
-/// What a person says of a first configuration.
+/// The answers of a person for a first configuration.
 #[derive(Drop)]
 pub struct Answers {
     pub nick: String,
@@ -21,8 +21,8 @@ pub struct Answers {
 }
 
 impl Answers {
-    /// Those of these words: a nick, a server, and channels, as many of them as there are. The others are those of
-    /// one who says nothing.
+    /// The answers in these words: a nick, a server, and any number of channels. Those that are missing are the
+    /// defaults.
     pub fn of(alloc: Global, words: Vec<String>) -> Result<Answers, AllocError> {
         let mut words = words.into_iter();
         let nick = or_else(alloc, words.next(), NICK)?;
@@ -42,7 +42,7 @@ impl Answers {
     }
 }
 
-/// A word, or another one in place of none or of an empty one.
+/// A word, or another one where it is missing or empty.
 fn or_else(alloc: Global, word: Option<String>, other: &str) -> Result<String, AllocError> {
     match word {
         Some(word) if !word.as_str().is_empty() => Ok(word),

@@ -1,4 +1,4 @@
-//! A person at a terminal is asked.
+//! Asking a person at a terminal.
 
 use crate::answers::{Answers, CHANNEL, NICK, SERVER};
 use crate::fault::InitFault;
@@ -9,8 +9,8 @@ use std::rt::Runtime;
 /// The most bytes of an answer, as of a line of IRC.
 const MOST: usize = 510;
 
-/// What an input answers to each question, which is written to standard error: the nick, the server, and the channels,
-/// separated by spaces. An empty line, or the end of the input, is what stands in brackets.
+/// Asks each question on standard error and reads the answer from an input: the nick, the server, and the channels,
+/// separated by spaces. An empty line, or the end of the input, means the default that is shown in brackets.
 pub fn ask<R: Runtime + AllocGlobal, I: Read>(rt: &R, input: &mut I) -> Result<Answers, InitFault> {
     let alloc = rt.alloc();
     let mut words = Vec::new(alloc);
@@ -32,7 +32,7 @@ pub fn ask<R: Runtime + AllocGlobal, I: Read>(rt: &R, input: &mut I) -> Result<A
     Ok(Answers::of(alloc, words)?)
 }
 
-/// The next line of an input, without its end, and without what is past the most of an answer.
+/// The next line of an input, without its end, and cut to the longest answer.
 fn line<I: Read>(alloc: Global, input: &mut I) -> Result<String, InitFault> {
     let mut bytes = Vec::new(alloc);
     let mut byte = [0u8; 1];

@@ -5,7 +5,7 @@ use std::fs::{self, DirBuilder, File, Files, OpenOptions};
 use std::io::{self, ErrorKind, Write};
 use std::os::unix::fs::{DirBuilderExt, OpenOptionsExt};
 
-/// Nobody but its owner reads the configuration, in which passwords stand, or looks into its folder.
+/// Only its owner can read the configuration, which contains passwords, or look into its folder.
 const OWNERS_FILE: u32 = 0o600;
 
 const OWNERS_FOLDER: u32 = 0o700;
@@ -16,7 +16,7 @@ pub struct Written {
     pub path: String,
 }
 
-/// A line that says so, and what to do next.
+/// Says in one line where it is, and what to do next.
 impl fmt::Display for Written {
     fn fmt<W: fmt::Write>(&self, f: &mut fmt::Formatter<W>) -> fmt::Result {
         let path = &self.path;
@@ -27,8 +27,8 @@ impl fmt::Display for Written {
     }
 }
 
-/// Writes the text of a configuration to `hukbarg.toml` in a folder, which is made where it is not there. `IsThere` where
-/// the folder has such a file, which stays as it is. Where it fails, no file is left.
+/// Writes the text of a configuration to `hukbarg.toml` in a folder, which is made if it does not exist. `IsThere` if
+/// the folder has such a file, which is not changed. On failure no file is left.
 pub fn write_first<R: Files<File = File> + AllocGlobal>(
     rt: &R,
     folder: &str,
@@ -46,7 +46,7 @@ pub fn write_first<R: Files<File = File> + AllocGlobal>(
     }
 }
 
-/// A folder is there, one that is made where it is not.
+/// Makes a folder, if it does not exist.
 fn make_folder<R: Files<File = File>>(rt: &R, folder: &str) -> io::Result<()> {
     match DirBuilder::new().mode(OWNERS_FOLDER).create(rt, folder) {
         Err(error) if error.kind() == ErrorKind::AlreadyExists => Ok(()),
@@ -54,7 +54,7 @@ fn make_folder<R: Files<File = File>>(rt: &R, folder: &str) -> io::Result<()> {
     }
 }
 
-/// A new file has these bytes, synced. It is gone again where that fails.
+/// Writes these bytes to a new file, synced. On failure the file is removed again.
 fn write<R: Files<File = File>>(rt: &R, path: &str, text: &[u8]) -> io::Result<()> {
     let mut file = OpenOptions::new()
         .write(true)
@@ -68,7 +68,7 @@ fn write<R: Files<File = File>>(rt: &R, path: &str, text: &[u8]) -> io::Result<(
     written
 }
 
-/// The bytes are in a file, synced.
+/// Writes the bytes to a file and syncs it.
 fn filled(file: &mut File, text: &[u8]) -> io::Result<()> {
     file.write_all(text)?;
     file.sync_all()

@@ -1,6 +1,6 @@
-//! A first configuration, as `bouncer init` writes it: every key with its meaning, a password that nobody has, and what differs
-//! from one person to the next. Stands under bouncer_app.
-//! Promises that what is to be written is a configuration; one that would be none is refused, with the reason.
+//! A first configuration, as `bouncer init` writes it: every key with its meaning, a fresh password, and the answers of
+//! the person. Used by bouncer_app. Promises that what is to be written is a configuration; a text that would be none
+//! is refused, with the reason.
 #![tactic(auto)]
 
 mod answers;

@@ -1,4 +1,4 @@
-//! A password that nobody has.
+//! A fresh random password.
 
 use crate::fault::InitFault;
 use std::fs::{self, File, Files};
@@ -7,7 +7,7 @@ use std::io::Read;
 /// Where the system gives random bytes.
 const SOURCE: &str = "/dev/urandom";
 
-/// Letters and digits that are not taken for each other, of which each is as likely as any other: 32 of them.
+/// Letters and digits that are not mistaken for each other, each as likely as any other: 32 of them.
 const LETTERS: [u8; 32] = *b"abcdefghijkmnpqrstuvwxyz23456789";
 
 /// How many letters it has: 80 bits, which nobody guesses.
@@ -25,6 +25,7 @@ pub fn random_password<R: Files<File = File> + AllocGlobal>(rt: &R) -> Result<St
         return Err(InitFault::System(String::from_str(alloc, SOURCE)?, error));
     }
     let mut letters = Vec::new(alloc);
+    // 256 is a multiple of 32, so each letter is as likely as any other
     for byte in &bytes {
         letters
             .push(LETTERS[(*byte % 32) as usize])

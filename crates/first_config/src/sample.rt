@@ -1,7 +1,7 @@
-//! The text of a first configuration, but for what differs from one person to the next. It is that of
-//! examples/hukbarg.toml; docs/keys makes this file of it.
+//! The text of a first configuration, without what differs from one person to the next. It is that of
+//! examples/hukbarg.toml; docs/keys makes this file from it.
 
-/// What stands before the nick.
+/// What comes before the nick.
 pub const BEFORE_NICK: &str =
     "# The configuration of `bouncer run`. Only the first five keys are needed.
 
@@ -41,7 +41,7 @@ store = \"store\"
 # The channels that are joined at the start, at most 100.
 channels = ";
 
-/// Behind the channels.
+/// After the channels.
 pub const BEHIND: &str = "\n
 # The keys of channels. A key that a client joins with is known as long as the program runs.
 # channel_keys = { \"#hukbarg\" = \"sesame\" }

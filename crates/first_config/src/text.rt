@@ -8,14 +8,14 @@ use crate::sample::{BEFORE_CHANNELS, BEFORE_NICK, BEFORE_PASSWORD, BEFORE_SERVER
 use bouncer_config::{Config, Problem, parse_config};
 use std::alloc::{AllocError, Global};
 
-/// A text, and the configuration that it says.
+/// A text, and the configuration that it describes.
 #[derive(Drop)]
 pub struct FirstConfig {
     pub text: Vec<u8>,
     pub config: Config,
 }
 
-/// The first configuration of these answers and this password of the clients. `Refused` where they make none, with the
+/// The first configuration with these answers and this password for the clients. `Refused` if they make none, with the
 /// line that is wrong.
 pub fn first_config(
     alloc: Global,
@@ -34,7 +34,7 @@ pub fn first_config(
     }
 }
 
-/// The text of these answers.
+/// The text with these answers.
 fn text_of(alloc: Global, answers: &Answers, password: &str) -> Result<Vec<u8>, AllocError> {
     let mut text = Vec::new(alloc);
     text.extend_from_slice(BEFORE_NICK.as_bytes())?;
@@ -64,7 +64,7 @@ fn push_list(out: &mut Vec<u8>, texts: &[String]) -> Result<(), AllocError> {
     Ok(())
 }
 
-/// A text as a basic string of TOML, which is refused where it has a control character.
+/// A text as a basic string of TOML; refused if it has a control character.
 fn push_quoted(out: &mut Vec<u8>, text: &[u8]) -> Result<(), AllocError> {
     out.push(b'"')?;
     for byte in text {

@@ -61,14 +61,14 @@ pub text_short : (text : List ℕ) → IsTrue (is_text text) → length text ≤
 unfolding is_text
 text_short text h = le_of (length text) 510 (and_left (nat_le (length text) 510) _ h)
 
--- a line of a middle and a last parameter
+-- a line with a middle and a last parameter
 pub two_line : (prefix : Option (List ℕ)) (command first last : List ℕ) → IsTrue (is_prefix prefix) → IsTrue (is_upper_command command) → IsTrue (is_middle first) → AreContent last
     → IsTrue (is_line (parts prefix command (first ∷ last ∷ [])))
 unfolding is_line
 two_line prefix command first last p c f l =
     and_both (is_prefix prefix && is_upper_command command && true) _ (and_both (is_prefix prefix && is_upper_command command) _ (and_both (is_prefix prefix) _ p c) refl) (and_both (is_middle first) _ f l)
 
--- a line of one parameter, the last
+-- a line with one parameter, the last
 pub one_parameter_line : (prefix : Option (List ℕ)) (command last : List ℕ) → IsTrue (is_prefix prefix) → IsTrue (is_upper_command command) → AreContent last
     → IsTrue (is_line (parts prefix command (last ∷ [])))
 unfolding is_line
@@ -102,7 +102,7 @@ line_facts p h =
       parameters = and_right (is_prefix p.prefix && is_upper_command p.command && nat_le (length p.parameters) 15) _ h;
     }
 
--- and every such four facts make one
+-- and any four such facts make one
 pub line_made : (p : Parts) → Makes p → IsTrue (is_line p)
 unfolding is_line
 line_made p m =
@@ -114,7 +114,7 @@ line_with_prefix prefix p h k =
     let m = line_facts p h in
     line_made (parts prefix p.command p.parameters) (record { prefix = k; command = m.command; few = m.few; parameters = m.parameters })
 
--- of a line with two parameters the first is a middle and the second content
+-- in a line with two parameters the first is a middle and the second is content
 pub two_parameters : (prefix : Option (List ℕ)) (command first last : List ℕ) → IsTrue (is_line (parts prefix command (first ∷ last ∷ []))) → IsTrue (is_middle first) × AreContent last
 two_parameters prefix command first last h =
     let m = line_facts (parts prefix command (first ∷ last ∷ [])) h in

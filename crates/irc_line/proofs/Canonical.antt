@@ -1,4 +1,4 @@
--- A canonical spelling is read back as the line that was spelled.
+-- The canonical spelling of a line is read back as that line.
 use Rattle.std.proofs.Common.{◌≡◌, ℕ, Bool, true, false, not, ◌||◌, List, [], ◌∷◌, ◌++◌, length, refl, ap, sym, subst, ◌∙◌, append_assoc, ◌≤◌}
 use Rattle.std.specs.Prelude.{if◌then◌else◌, ◌==◌, Option, Some, None, Ok, IsTrue}
 use Rattle.std.specs.List.{list_any}
@@ -60,7 +60,7 @@ prefix_content : (o : Option (List ℕ)) → is_prefix o ≡ true → AreContent
 prefix_content None h = refl
 prefix_content (Some p) h = content_both p (32 ∷ []) (word_content p h) refl
 
--- the canonical spelling of a line is a content that says it
+-- the canonical spelling of a line is a content that means that line
 pub line_spelled : (p : Parts) → IsTrue (is_line p) → IsLine (spelling p) p
 unfolding spelling
 line_spelled p h =
@@ -81,6 +81,6 @@ spelling_judged p h l = judged_ok (spelling p) p l (line_content p h) (line_spel
 some_same : (p q : Parts) → (let o : Option Parts = Some p in o ≡ Some q) → p ≡ q
 some_same p q h = cc
 
--- two lines of one spelling are one
+-- two lines with one spelling are equal
 pub one_line : (p q : Parts) → IsTrue (is_line p) → IsTrue (is_line q) → spelling p ≡ spelling q → p ≡ q
 one_line p q h k e = some_same p q (sym (complete (spelling p) p (line_spelled p h)) ∙ ap read e ∙ complete (spelling q) q (line_spelled q k))

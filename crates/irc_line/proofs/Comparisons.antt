@@ -12,7 +12,7 @@ front_some_by : (a b s t : List ℕ) (v : Bool) → (if v then behind a s else N
 front_some_by a b s t true e ih = ih e
 front_some_by a b s t false e ih = cc
 
--- what stands behind two fronts, where the first stands there
+-- what follows two fronts, if the bytes begin with the first
 pub front_some : (a b s t : List ℕ) → behind a s ≡ Some t → behind (a ++ b) s ≡ behind b t
 front_some [] b s t e = let same : s ≡ t = cc in ap (behind b) same
 front_some (x ∷ a) b [] t e = cc
@@ -22,7 +22,7 @@ front_none_by : (a b s : List ℕ) (v : Bool) → (if v then behind a s else Non
 front_none_by a b s true e ih = ih e
 front_none_by a b s false e ih = refl
 
--- and where it does not
+-- and where they do not
 pub front_none : (a b s : List ℕ) → behind a s ≡ None → behind (a ++ b) s ≡ None
 front_none [] b s e = cc
 front_none (x ∷ a) b [] e = refl
@@ -33,7 +33,7 @@ same_some_by : (a b s t : List ℕ) (v : Bool) → (if v then behind a s else No
 same_some_by a b s t true e ih = ih e
 same_some_by a b s t false e ih = cc
 
--- bytes are the same as two parts where the first stands in front and the second behind it
+-- bytes are equal to two parts in a row where they begin with the first and the second follows it
 pub same_some : (a b s t : List ℕ) → behind a s ≡ Some t → same_bytes (a ++ b) s ≡ same_bytes b t
 same_some [] b s t e = let same : s ≡ t = cc in ap (same_bytes b) same
 same_some (x ∷ a) b [] t e = cc

@@ -27,7 +27,7 @@ prefix_cut_by q rest text n false t e b =
     let place : n - 1 ≡ 1 + length q = omega arith in
     rw (t, place) (ap Some (between (58 ∷ []) q (32 ∷ rest)))
 
--- the prefix is cut out of what begins with its spelling
+-- the prefix, cut out of bytes that begin with its spelling
 prefix_cut : (o : Option (List ℕ)) (rest : List ℕ) → cut_prefix (spelled_prefix o ++ rest) (length (spelled_prefix o)) ≡ o
 prefix_cut None rest = refl
 prefix_cut (Some q) rest =
@@ -39,12 +39,12 @@ prefix_room : (o : Option (List ℕ)) → ¬ (length (spelled_prefix o) ≡ 0) �
 prefix_room None h = absurd (h refl)
 prefix_room (Some q) h = rw (length-append q (32 ∷ [])) (omega arith)
 
--- the canonical spelling by its three pieces, the last two as one
+-- the canonical spelling as its three pieces, the last two joined
 pieces : (p : Parts) → spelling p ≡ spelled_prefix p.prefix ++ (p.command ++ spelled_parameters p.command p.parameters)
 unfolding spelling
 pieces p = append_assoc (spelled_prefix p.prefix) p.command (spelled_parameters p.command p.parameters)
 
--- what stands behind the command
+-- what follows the command
 behind_command : (p : Parts) → drop (length (spelled_prefix p.prefix) + length p.command) (spelling p) ≡ spelled_parameters p.command p.parameters
 unfolding spelling
 behind_command p = rw (← length-append (spelled_prefix p.prefix) p.command) (drop-append_seam (spelled_prefix p.prefix ++ p.command) (spelled_parameters p.command p.parameters))
@@ -63,11 +63,11 @@ spelling_end : (p : Parts) → length (spelled_prefix p.prefix) + length p.comma
 unfolding spelling
 spelling_end p = rw (length-append (spelled_prefix p.prefix ++ p.command) (spelled_parameters p.command p.parameters), length-append (spelled_prefix p.prefix) p.command) (omega arith)
 
--- the parts that the places of a line's command cut out of its canonical spelling are its own
+-- the places of a line's command cut the line's own parts out of its canonical spelling
 pub cut_is : (text : List ℕ) (command tail : ℕ) (p : Parts) → IsCut text command tail p → cut_parts text command tail ≡ p
 cut_is text command tail p h = rw (h.tail_place, h.command_place, h.whole) (spelling_cut p h.line)
 
--- so a line may be held so
+-- a line may therefore be held as that spelling and those places
 pub cut_held : (text : List ℕ) (command tail : ℕ) (p : Parts) → IsCut text command tail p → IsHeld text command tail
 cut_held text command tail p h =
     let same = cut_is text command tail p h in
@@ -89,7 +89,7 @@ spelled_cut p none front named text start end h n f s m e t =
       tail_place = e ∙ ap length second ∙ length-append (spelled_prefix p.prefix) p.command ∙ ap (λ x. x + length p.command) (sym (s ∙ ap length first));
     }
 
--- what is a draft's canonical spelling already
+-- where the text is the draft's canonical spelling already
 pub draft_cut : (p : Parts) (prefix : Option (List ℕ)) (word tail bytes text : List ℕ) (start : ℕ) → drafted prefix word tail ≡ p → IsTrue (is_line p) → same_bytes (spelling p) bytes ≡ true
     → text ≡ bytes → start ≡ length (spelled_prefix prefix) → IsCut text start (start + length word) p
 draft_cut p prefix word tail bytes text start d h e t s =
@@ -102,7 +102,7 @@ draft_cut p prefix word tail bytes text start d h e t s =
       tail_place = rw (command, length-map) refl;
     }
 
--- what stands behind the prefix of a line is the line without it
+-- what follows the prefix of a line is the line without it
 bare_cut : (text : List ℕ) (command tail : ℕ) (p : Parts) → IsCut text command tail p → IsCut (drop command text) 0 (tail - command) (parts None p.command p.parameters)
 unfolding spelling
 bare_cut text command tail p h =

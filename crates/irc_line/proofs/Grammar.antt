@@ -201,12 +201,12 @@ tail_at_by spaces x v false c h n ih =
     let t = middle spaces (x ∷ word_of v) (behind_word v) (parameters_of (behind_word v)) h (c, and_both (not (is_space x)) _ (not_from _ n) w.1) (ih (behind_word v) (omega arith) w.2) in
     rw q (subst (λ y. IsTail (32 ∷ (spaces ++ x ∷ y)) ((x ∷ word_of v) ∷ parameters_of (behind_word v))) (sym w.0) t)
 
--- the tail of a line, by what stands behind its first spaces
+-- the tail of a line, by what follows its first spaces
 tail_at : (spaces u : List ℕ) → AreSpaces spaces → NotSpaced u → ((r : List ℕ) → length r < length u → Ends r → IsTail r (parameters_of r)) → IsTail (32 ∷ (spaces ++ u)) (parameters_of u)
 tail_at spaces [] h n ih = subst (λ t. IsTail (32 ∷ t) []) (sym (append-nil spaces)) (none (32 ∷ spaces) h)
 tail_at spaces (x ∷ v) h n ih = tail_at_by spaces x v (x == 58) refl h n ih
 
--- the tail of a line, by how long it is at most
+-- the tail of a line, by its greatest length
 tail_made : (n : ℕ) (s : List ℕ) → length s ≤ n → Ends s → IsTail s (parameters_of s)
 tail_made n [] l e = none [] refl
 tail_made zero (b ∷ s) l e = absurd (omega arith)
@@ -230,7 +230,7 @@ read_command_is pre t p h = read_command_is_by pre t p (is_command (word_of t)) 
 tail_behind : (t : List ℕ) → IsTail (behind_word t) (parameters_of (behind_word t))
 tail_behind t = tail_made (length (behind_word t)) (behind_word t) (omega arith) (split_word t).2
 
--- a line behind its first spaces
+-- a line from which the first spaces are gone
 abbrev IsFrom : List ℕ → Parts → Type 0
 IsFrom u p =
     (first word rest : List ℕ) × (u ≡ first ++ (word ++ rest)) × IsPrefix first p.prefix × (is_command word ≡ true) × (p.command ≡ map upper word) × IsTail rest p.parameters

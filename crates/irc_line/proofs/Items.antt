@@ -1,4 +1,4 @@
--- What a content gives, and that it is never want of memory.
+-- What a content gives; it is never an out-of-memory error.
 use Rattle.std.proofs.Common.{◌≡◌, ℕ, Bool, true, false, List, [], ◌∷◌, ◌++◌, length, refl, ap, arith, ◌≤◌, ◌<◌}
 use Rattle.std.specs.Prelude.{Option, if◌then◌else◌, Some, None, Result, Ok, Err, nat_lt, position}
 use Rattle.std.proofs.lemmas.Bool.{lt-ltb, le-ltb}
@@ -66,7 +66,7 @@ long_by : (content : List ℕ) (b : Bool) → (judged content ≡ Err Memory →
 long_by content true n h = cc
 long_by content false n h = item_by (judged content) n h
 
--- want of memory is no judgement of a content
+-- a content is never judged to be out of memory
 pub not_memory : (content : List ℕ) → judged content ≡ Err Memory → ⊥
 unfolding judged
 not_memory content h = judged_by content (position is_bad content) (nat_lt 511 (length content)) h

@@ -12,7 +12,7 @@ use Rattle.irc_line.proofs.Booleans.{and_both, and_right}
 use Rattle.irc_line.proofs.Words.{content_left, content_right, no_place, all_content, first_place, word_passes, middle_passes, command_passes, is_bad}
 use Rattle.irc_line.proofs.Numbers.{ge_of, of_ge, of_lt, of_le}
 
--- What the grammar gives of content bytes is a line
+-- what the grammar reads from content bytes is a line
 
 prefix_passes : (first : List ℕ) (prefix : Option (List ℕ)) → IsPrefix first prefix → AreContent first → is_prefix prefix ≡ true
 prefix_passes first None h k = refl
@@ -44,7 +44,7 @@ line_passes content p h k few =
 
 -- What a judgement says
 
--- all that a content is, where it is judged to be a line
+-- what holds of a content that is judged to be a line
 pub record IsJudged (content : List ℕ) (p : Parts) : Type 0 where
   pub short : length content ≤ 511
   pub bytes : AreContent content
@@ -80,7 +80,7 @@ pub judged_is : (content : List ℕ) (p : Parts) → judged content ≡ Ok p →
 unfolding judged
 judged_is content p h = length_judged content p (nat_lt 511 (length content)) refl h
 
--- what is judged to be a line is one
+-- what is judged to be a line is a line
 pub judged_line : (content : List ℕ) (p : Parts) → judged content ≡ Ok p → IsTrue (is_line p)
 judged_line content p h =
     let j = judged_is content p h in

@@ -59,12 +59,12 @@ pub other_key : (c f : List ℕ) → is_below (fold_name f) (fold_name c) ≡ tr
 unfolding at_key
 other_key c f e = false_of _ (λ s. below-irrefl (fold_name f) (subst (λ k. is_below (fold_name f) k ≡ true) (same_bytes-eq (fold_name c) (fold_name f) s) e))
 
--- who has a key folds to it
+-- a name that has a key folds to it
 pub key_is : (key name : List ℕ) → at_key key name ≡ true → key ≡ fold_name name
 unfolding at_key
 key_is key name e = same_bytes-eq key (fold_name name) e
 
--- of two names each has the other's key, or neither has
+-- two names have each other's key, or neither has
 pub at_key-sym : (c d : List ℕ) → at_key (fold_name c) d ≡ at_key (fold_name d) c
 unfolding at_key
 at_key-sym c d = same_bytes-sym (fold_name c) (fold_name d)
@@ -73,7 +73,7 @@ pub own_key : (c : List ℕ) → at_key (fold_name c) c ≡ true
 unfolding at_key
 own_key c = same_bytes-refl (fold_name c)
 
--- a name in rising order is found under its key
+-- a name among rising names is found under its key
 pub find-own : (front : List (List ℕ)) (c : List ℕ) (back : List (List ℕ)) → are_rising (front ++ c ∷ back) ≡ true → find (at_key (fold_name c)) (front ++ c ∷ back) ≡ Some c
 find-own [] c back e = rw (own_key c) refl
 find-own (f ∷ front) c back e = rw (other_key c f (rising-below f front c back e)) (find-own front c back (and_right _ _ e))
@@ -97,7 +97,7 @@ ends_at_front (x ∷ a) (y ∷ b) h = absurd (let l = h (omega arith) in omega a
 lt_less : (x y n : ℕ) → n ≤ x → n ≤ y → nat_lt (x - n) (y - n) ≡ nat_lt x y
 lt_less x y n h k = grind (arith, nat_tests)
 
--- where one of two names is used up, the shorter one comes first
+-- where one of two names ends, the shorter one comes first
 pub below_ends : (a b : List ℕ) (n : ℕ) → n ≤ length a → n ≤ length b → (n < length a → length b ≤ n) → is_below (fold_name (drop n a)) (fold_name (drop n b)) ≡ nat_lt (length a) (length b)
 below_ends a b n h k e =
     ends_at_front (drop n a) (drop n b) (λ l. let m : n < length a = omega (arith, l, length-drop n a) in omega (arith, e m, length-drop n b))

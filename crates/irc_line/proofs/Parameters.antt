@@ -1,4 +1,4 @@
--- The parameters behind a word.
+-- The parameters after a word.
 use Rattle.std.proofs.Common.{◌≡◌, ℕ, Bool, true, false, List, [], ◌∷◌, refl, ap, sym, ◌+◌, ◌≤◌, ◌≢◌, ◌∙◌, take, drop, get_or, length, arith, add-one}
 use Rattle.std.specs.Prelude.{◌==◌}
 use Rattle.std.specs.Prelude.{if◌then◌else◌}

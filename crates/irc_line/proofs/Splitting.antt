@@ -1,4 +1,5 @@
--- What line feeds end, however the bytes are cut, and that what is held tells as much as all that stands since the last LF.
+-- What line feeds end, however the bytes are cut; the bytes that are held suffice in place of all bytes since the last
+-- LF.
 use Rattle.std.proofs.Common.{suc, ◌≡◌, ℕ, Bool, true, false, not, inl, inr, cond, List, [], ◌∷◌, ◌++◌, length, take, drop, get_or, refl, ap, sym, subst, ◌∙◌, arith, ◌≤◌, ◌<◌, ◌+◌, ◌-◌, append_assoc}
 use Rattle.std.specs.Prelude.{if◌then◌else◌, ◌==◌, Some, None, nat_lt, flat_map, position}
 use Rattle.std.specs.List.{list_all, position_or_len}
@@ -15,7 +16,7 @@ use Rattle.irc_line.specs.declared.item.Item.TheVariants.{Refused}
 use Rattle.irc_line.specs.Splitting.{is_line_feed, HasNoLineFeed, since_byte, ended_at, ended_from, unended_from, without_return, content_item, content_items, ended_items, items_from, items, unended, Stands}
 use Rattle.irc_line.proofs.Booleans.{and_left, and_right, and_both, not_true, not_from}
 
--- What stands between the LFs
+-- What lies between the LFs
 
 pub ended_none : (since s : List ℕ) → HasNoLineFeed s → ended_from since s ≡ []
 ended_none since [] h = refl
@@ -36,7 +37,7 @@ unended_one since [] rest h = refl
 unended_one since (b ∷ s) rest h =
     rw (unended_from, not_true (is_line_feed b) (and_left (not (is_line_feed b)) _ h)) (unended_one (since ++ b ∷ []) s rest (and_right (not (is_line_feed b)) _ h))
 
--- Bytes that were cut
+-- Bytes that come in two pieces
 
 pub ended_append : (since s t : List ℕ) → ended_from since (s ++ t) ≡ ended_from since s ++ ended_from (unended_from since s) t
 ended_append since [] t = refl
@@ -65,7 +66,7 @@ front_passes : (s : List ℕ) → HasNoLineFeed (take (position_or_len is_line_f
 front_passes [] = refl
 front_passes (b ∷ s) = front_passes_by b s (position_or_len is_line_feed s) (is_line_feed b) refl (front_passes s)
 
--- all that the place of the first LF tells
+-- what holds of the place of the first LF
 pub record IsCut (s : List ℕ) (n : ℕ) : Type 0 where
   pub within : n < length s
   pub front : HasNoLineFeed (take n s)
@@ -100,7 +101,7 @@ no_line_feed s h =
     let m = position_or_len is_line_feed s in
     subst (λ t. HasNoLineFeed t) (take_all m s (none_by s m (nat_lt m (length s)) refl h)) (front_passes s)
 
--- What is held tells enough
+-- What is held suffices
 
 pub return_len : (s : List ℕ) → length s ≤ length (without_return s) + 1
 return_len [] = omega arith

@@ -1,4 +1,4 @@
--- The first parameter of a text, and what stands behind it.
+-- The first parameter of a text, and what follows it.
 use Rattle.std.proofs.Common.{◌≡◌, ◌≢◌, ℕ, ◌-◌, Bool, true, false, List, [], ◌∷◌, take, drop, get_or, length, refl, ap, sym, ◌∙◌, arith, ◌≤◌}
 use Rattle.std.specs.Prelude.{if◌then◌else◌}
 use Rattle.std.proofs.lemmas.List.{take_rest}
@@ -28,7 +28,7 @@ trailing_in : (s : List ℕ) → NotSpaced s → 1 ≤ length s → get_or s 0 0
 trailing_in [] n l h = absurd (omega arith)
 trailing_in (b ∷ s) n l h = rw (parameters_from, n, of_eq b 58 h) refl
 
--- where a colon comes first all that stands behind it is the last parameter
+-- where a colon comes first, all that follows it is the last parameter
 pub trailing_parameter : (text rest : List ℕ) → rest ≡ skip_spaces text → 1 ≤ length rest → get_or rest 0 0 ≡ 58 → IsFirstParameter text (take (length rest - 1) (drop 1 rest)) []
 trailing_parameter text rest e l h =
     let whole : length rest ≤ length text = rw e (length_skip text) in

@@ -36,7 +36,7 @@ content_len (x ∷ s) h =
 not_below : (n : ℕ) → nat_lt n n ≡ false
 not_below n = grind (arith, nat_tests)
 
--- where all are content bytes there is no place of a bad one
+-- where all are content bytes, no place has a bad one
 pub no_place : (s : List ℕ) → AreContent s → position is_bad s ≡ None
 no_place s h = rw (content_len s h, not_below (length s)) refl
 
@@ -53,7 +53,7 @@ place_none_by : (m n : ℕ) (b : Bool) → nat_lt m n ≡ b → cond b (Some m) 
 place_none_by m n true e h = cc
 place_none_by m n false e h = grind (arith, nat_tests)
 
--- and where there is no such place all are content bytes
+-- and where no place has one, all are content bytes
 pub all_content : (s : List ℕ) → position is_bad s ≡ None → AreContent s
 all_content s h = len_content s (place_none_by (position_or_len is_bad s) (length s) _ refl h)
 

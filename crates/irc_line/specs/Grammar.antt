@@ -13,7 +13,7 @@ is_space b = b == 32
 abbrev pub AreSpaces : List ℕ → Type 0
 AreSpaces s = list_all is_space s ≡ true
 
--- one or more bytes but space
+-- one or more bytes other than space
 abbrev pub IsWord : List ℕ → Type 0
 IsWord [] = ⊥
 IsWord (b ∷ s) = list_all (λ x. not (is_space x)) (b ∷ s) ≡ true
@@ -23,7 +23,7 @@ abbrev pub IsMiddle : List ℕ → Type 0
 IsMiddle [] = ⊥
 IsMiddle (b ∷ s) = ((b == 58) ≡ false) × IsWord (b ∷ s)
 
--- what stands behind a command, with the parameters that it gives
+-- what follows a command, and the parameters in it
 pub data IsTail : List ℕ → List (List ℕ) → Type 0 where
   none : (spaces : List ℕ) → AreSpaces spaces → IsTail spaces []
   trailing : (spaces text : List ℕ) → AreSpaces spaces → IsTail (32 ∷ (spaces ++ 58 ∷ text)) (text ∷ [])
@@ -42,12 +42,12 @@ upper b = if nat_le 97 b && nat_le b 122 then b - 32 else b
 abbrev pub is_command : List ℕ → Bool
 is_command word = (nat_lt 0 (length word) && list_all is_letter word) || (length word == 3 && list_all is_digit word)
 
--- what stands before a command, with the prefix that it gives
+-- what comes before a command, and the prefix in it
 abbrev pub IsPrefix : List ℕ → Option (List ℕ) → Type 0
 IsPrefix s None = s ≡ []
 IsPrefix s (Some prefix) = (spaces : List ℕ) × AreSpaces spaces × IsWord prefix × (s ≡ 58 ∷ (prefix ++ 32 ∷ spaces))
 
--- a content and what it says
+-- a content and the line it means
 abbrev pub IsLine : List ℕ → Parts → Type 0
 IsLine content p =
     (spaces first word rest : List ℕ) × (content ≡ spaces ++ (first ++ (word ++ rest))) × AreSpaces spaces × IsPrefix first p.prefix × (is_command word ≡ true) × (p.command ≡ map upper word) × IsTail rest p.parameters
@@ -56,7 +56,7 @@ IsLine content p =
 abbrev pub AreContent : List ℕ → Type 0
 AreContent s = list_all is_content_byte s ≡ true
 
--- the first NUL, CR or LF stands at this place, counted from 0
+-- the first NUL, CR or LF is at this place, counted from 0
 abbrev pub IsFirstBad : List ℕ → ℕ → Type 0
 IsFirstBad s place =
     (before rest : List ℕ) × (b : ℕ) × (s ≡ before ++ b ∷ rest) × (length before ≡ place) × AreContent before × (is_content_byte b ≡ false)

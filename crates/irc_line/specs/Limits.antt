@@ -18,6 +18,6 @@ parameter_limit = PARAMETER_LIMIT
 abbrev pub name_limit : ℕ
 name_limit = NAME_LIMIT
 
--- how many bytes of a content that has not ended are held at most
+-- how many bytes are held at most of a content that has not ended
 abbrev pub held_limit : ℕ
 held_limit = HELD_LIMIT

@@ -1,4 +1,4 @@
--- Lines (RFC 2812, 2.3.1): what a line says, and its one canonical spelling.
+-- Lines (RFC 2812, 2.3.1): the parts of a line, and its one canonical spelling.
 use Rattle.std.specs.Prelude.{◌<◌, ◌+◌, unwrap_or, slice_get, vec_capacity, vec_len, ℕ, Bool, true, not, ◌&&◌, ◌||◌, if◌then◌else◌, ◌==◌, nat_le, nat_lt, List, [], ◌∷◌, ◌++◌, length, take, Option, Some, None, refl, codes}
 use Rattle.std.specs.List.{list_all, list_any}
 use Rattle.std.specs.Global.{Vec}
@@ -8,7 +8,7 @@ use Rattle.std.specs.Coded.{Coded, code_by, coded×, coded_list, coded_option, c
 use Rattle.irc_line.specs.Names.{first_is, is_content_byte, same_bytes}
 use Rattle.irc_line.specs.Limits.{content_limit, parameter_limit}
 
--- what a line says
+-- the parts of a line
 pub record Parts : Type 0 where
   pub prefix : Option (List ℕ)
   pub command : List ℕ
@@ -23,7 +23,7 @@ parts_code =
 abbrev pub parts : Option (List ℕ) → List ℕ → List (List ℕ) → Parts
 parts prefix command parameters = record { prefix = prefix; command = command; parameters = parameters }
 
--- a parameter, the first at 0; no bytes where there is none
+-- a parameter, the first at 0; no bytes if there is none
 abbrev pub parameter : ℕ → Parts → List ℕ
 parameter i line = unwrap_or (slice_get line.parameters i) []
 
@@ -31,15 +31,15 @@ parameter i line = unwrap_or (slice_get line.parameters i) []
 abbrev pub line_of : List ℕ → List ℕ → List (List ℕ) → Parts
 line_of prefix command parameters = parts (Some prefix) command parameters
 
--- a command to a target with a text
+-- a command with a target and a text
 abbrev pub message : Option (List ℕ) → List ℕ → List ℕ → List ℕ → Parts
 message prefix command target text = parts prefix command (target ∷ text ∷ [])
 
--- the bytes that a prefix points to, where there is one
+-- the bytes that a prefix points to, if there is one
 abbrev pub lent_prefix : Option (Bor (List ℕ)) → Option (List ℕ)
 lent_prefix prefix = option_map (λ x. x.now) prefix
 
--- What a line may say
+-- What a line may contain
 
 -- no space, NUL, CR or LF
 abbrev pub is_word_byte : ℕ → Bool
@@ -82,11 +82,11 @@ is_line p = is_prefix p.prefix && is_upper_command p.command && nat_le (length p
 
 -- The canonical spelling
 
--- the commands whose last parameter always has a colon before it
+-- the commands whose last parameter always gets a colon
 abbrev pub is_spoken : List ℕ → Bool
 is_spoken command = same_bytes command (codes "PRIVMSG") || same_bytes command (codes "NOTICE") || same_bytes command (codes "TOPIC")
 
--- no word could be this parameter, or it would be read as a trailing one
+-- this parameter is no middle, so it needs a colon
 abbrev pub is_trailing : List ℕ → Bool
 is_trailing last = length last == 0 || first_is 58 last || list_any (λ b. b == 32) last
 
@@ -104,7 +104,7 @@ spelled_parameters command [] = []
 spelled_parameters command (last ∷ []) = spelled_last command last
 spelled_parameters command (x ∷ y ∷ rest) = (32 ∷ x) ++ spelled_parameters command (y ∷ rest)
 
--- the prefix, with its colon and the space behind it
+-- the prefix, with its colon and the space after it
 abbrev pub spelled_prefix : Option (List ℕ) → List ℕ
 spelled_prefix None = []
 spelled_prefix (Some prefix) = 58 ∷ (prefix ++ 32 ∷ [])
@@ -117,10 +117,10 @@ spelling p = spelled_prefix p.prefix ++ p.command ++ spelled_parameters p.comman
 abbrev pub spelled_parts : Option (Bor (List ℕ)) → List ℕ → List (List ℕ) → List ℕ
 spelled_parts prefix command parameters = spelling (parts (lent_prefix prefix) command parameters)
 
--- a vector has no room for so many more items
+-- a vector has no room for this many more items
 abbrev pub LacksRoom : {A : Type 0} → Vec A → ℕ → Type 0
 LacksRoom out n = vec_capacity out < vec_len out + n
 
--- what a line is cut to where it leaves: the first 510 bytes of its spelling, with CR LF
+-- what a line is cut to when it is sent: the first 510 bytes of its spelling, with CR LF
 abbrev pub cut_spelling : Parts → List ℕ
 cut_spelling p = take content_limit (spelling p) ++ 13 ∷ 10 ∷ []

@@ -59,6 +59,6 @@ is_text text = nat_le (length text) content_limit && list_all is_content_byte te
 abbrev pub action_mark : List ℕ
 action_mark = 1 ∷ codes "ACTION "
 
--- these are the bytes that were tested, and they passed
+-- these are the bytes that were tested, and they passed the test
 abbrev pub IsPassed : (List ℕ → Bool) → List ℕ → List ℕ → Type 0
 IsPassed test bytes given = (given ≡ bytes) × IsTrue (test bytes)

@@ -1,9 +1,9 @@
--- Where the parts of a line stand in its canonical spelling.
+-- Where the parts of a line are in its canonical spelling.
 use Rattle.std.specs.Prelude.{◌≡◌, ◌≤◌, IsTrue, ℕ, ◌+◌, ◌-◌, ◌==◌, if◌then◌else◌, List, length, drop, slice_range, Option, Some, None}
 use Rattle.irc_line.specs.Lines.{Parts, is_line, spelled_prefix, spelling}
 use Rattle.irc_line.specs.Reading.{parameters_of}
 
--- the prefix of a text whose command begins at this place: a colon stands before it and a space behind it
+-- the prefix of a text whose command begins at this place: there is a colon before it and a space after it
 abbrev pub cut_prefix : List ℕ → ℕ → Option (List ℕ)
 cut_prefix text command = if command == 0 then None else Some (slice_range text 1 (command - 1))
 
@@ -12,7 +12,7 @@ abbrev pub cut_parts : List ℕ → ℕ → ℕ → Parts
 cut_parts text command tail =
     record { prefix = cut_prefix text command; command = slice_range text command tail; parameters = parameters_of (drop tail text) }
 
--- a text is the canonical spelling of these parts, which are a line's, and its command stands between these places
+-- a text is the canonical spelling of these parts, which are a line's, and its command lies between these places
 pub record IsCut (text : List ℕ) (command tail : ℕ) (p : Parts) : Type 0 where
   pub line : IsTrue (is_line p)
   pub whole : text ≡ spelling p

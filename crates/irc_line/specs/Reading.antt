@@ -7,7 +7,7 @@ use Rattle.irc_line.specs.declared.fault.LineFault.{LineFault}
 use Rattle.irc_line.specs.declared.fault.LineFault.TheVariants.{TooLong, NoCommand, BadByte, TooManyParameters}
 use Rattle.irc_line.specs.Limits.{line_limit, parameter_limit}
 
--- the bytes behind the first spaces
+-- the bytes after the first spaces
 abbrev pub skip_spaces : List ℕ → List ℕ
 skip_spaces [] = []
 skip_spaces (b ∷ s) = if is_space b then skip_spaces s else b ∷ s
@@ -29,20 +29,20 @@ parameters_from true (x ∷ s) = if is_space x then parameters_from false s else
 parameters_from false (x ∷ s) =
     if is_space x then parameters_from false s else if x == 58 then s ∷ [] else (x ∷ word_of s) ∷ parameters_from true s
 
--- the parameters of what stands behind a command
+-- the parameters of what follows a command
 abbrev pub parameters_of : List ℕ → List (List ℕ)
 parameters_of s = parameters_from false s
 
--- these are the first parameter of a text and what stands behind it, which is shorter
+-- these are the first parameter of a text and what follows it, which is shorter
 pub record IsFirstParameter (text first behind : List ℕ) : Type 0 where
   pub whole : parameters_of text ≡ first ∷ parameters_of behind
   pub shorter : length behind < length text
 
--- the parts of a prefix, of a command in any letters and of what stands behind it
+-- the parts of a prefix, of a command in any letters and of what follows it
 abbrev pub drafted : Option (List ℕ) → List ℕ → List ℕ → Parts
 drafted prefix word tail = record { prefix = prefix; command = map upper word; parameters = parameters_of tail }
 
--- the parts of what stands behind a prefix, where it begins with a command
+-- the parts of what follows a prefix, where it begins with a command
 abbrev pub read_command : Option (List ℕ) → List ℕ → Option Parts
 read_command prefix s = if is_command (word_of s) then Some (drafted prefix (word_of s) (behind_word s)) else None
 

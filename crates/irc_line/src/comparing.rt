@@ -7,14 +7,14 @@ ghost use Rattle.irc_line.specs.Comparing.{behind};
 
 use crate::word::upper_byte;
 
-/// What stands behind a front, where the bytes begin with it.
+/// What follows a front, if the bytes begin with it.
 pub fn behind<'a>(front: &[u8], bytes: &'a [u8]) -> Option<&'a [u8]>
     ensures { option_map (λ x. x.now) result ≡ behind front.now bytes.now }
 {
     bytes.strip_prefix(front)
 }
 
-/// What stands behind the canonical spelling of a prefix, where the bytes begin with it.
+/// What follows the canonical spelling of a prefix, if the bytes begin with it.
 pub fn behind_prefix<'a>(prefix: Option<&[u8]>, bytes: &'a [u8]) -> Option<&'a [u8]>
     ensures { lent_prefix result ≡ behind (spelled_prefix (lent_prefix prefix.entry)) bytes.now }
 {
@@ -24,7 +24,7 @@ pub fn behind_prefix<'a>(prefix: Option<&[u8]>, bytes: &'a [u8]) -> Option<&'a [
     }
 }
 
-/// What stands behind a word in upper case, where the bytes begin with it.
+/// What follows a word in upper case, if the bytes begin with it.
 pub fn behind_upper<'a>(word: &[u8], bytes: &'a [u8]) -> Option<&'a [u8]>
     ensures { option_map (λ x. x.now) result ≡ behind (map upper word.now) bytes.now }
 {

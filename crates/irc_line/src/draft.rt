@@ -14,8 +14,8 @@ use crate::{Line, LineFault};
 use std::alloc::{AllocError, Global};
 use std::marker::Model;
 
-/// What a content says: its prefix, its command in the letters that stand there,
-/// and what stands behind the command.
+/// What a content says: its prefix, its command in the letters as received, and what follows the
+/// command.
 #[derive(Drop)]
 pub struct Draft<'a> {
     pub prefix: Option<&'a [u8]>,
@@ -66,7 +66,7 @@ impl<'a> Draft<'a> {
         }
     }
 
-    /// The line of the draft, whose canonical spelling these bytes are: they are copied once.
+    /// The line of the draft, whose canonical spelling is these bytes: they are copied once.
     pub fn copied(&self, alloc: Global, bytes: &[u8]) -> Result<Line, AllocError>
         requires line { IsTrue (is_line self.now) }
         requires spelled { IsTrue (same_bytes (spelling self.now) bytes.now) }
@@ -77,7 +77,7 @@ impl<'a> Draft<'a> {
         Line::cut(text, start, start + self.command.len())
     }
 
-    /// The line of the draft, which is spelled anew.
+    /// The line of the draft, whose canonical spelling is written out.
     pub fn build(&self, alloc: Global) -> Result<Line, AllocError>
         requires { IsTrue (is_line self.now) }
         ensures { IfOk result (λ l. l ≡ self.now) }

@@ -20,8 +20,8 @@ fn folded_byte(byte: u8) -> u8
     }
 }
 
-/// A name in the spelling by which it is compared: `A` to `Z` become `a` to `z`,
-/// and `[`, `]`, `\`, `~` become `{`, `}`, `|`, `^`.
+/// A name as it is compared: `A` to `Z` become `a` to `z`, and `[`, `]`, `\`, `~` become `{`, `}`,
+/// `|`, `^`.
 pub fn fold_name(alloc: Global, name: &[u8]) -> Result<Vec<u8>, AllocError>
     ensures { IfOk result (λ v. v.items ≡ fold_name name.now) }
 {
@@ -44,8 +44,8 @@ pub fn is_same_name(a: &[u8], b: &[u8]) -> bool
     true
 }
 
-/// Whether one name comes before another: by their first folded bytes that differ,
-/// or as the shorter one where there are none.
+/// Whether one name comes before another: by their first folded bytes that differ, or as the
+/// shorter one if there are none.
 pub fn is_name_below(a: &[u8], b: &[u8]) -> bool
     ensures { result ≡ is_below (fold_name a.now) (fold_name b.now) }
 {

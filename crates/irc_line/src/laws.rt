@@ -8,14 +8,14 @@ ghost use Rattle.irc_line.specs.declared.fault.LineFault.{LineFault};
 ghost use Rattle.irc_line.specs.declared.item.Item.{Item};
 ghost use Rattle.irc_line.specs.Limits.{content_limit, line_limit, parameter_limit};
 
-/// What is read of a content is what the grammar gives, and nothing is read where it gives nothing.
+/// Reading a content gives what the grammar gives, and nothing where the grammar gives nothing.
 pub fn the_reading_is_the_grammar()
     ensures complete { (content : List ℕ) (p : Parts) → IsLine content p → read content ≡ Some p }
     ensures sound { (content : List ℕ) (p : Parts) → read content ≡ Some p → IsLine content p }
 {}
 
-/// Every content has exactly one of these judgements: a fault, the first that holds of it in this
-/// order, or its parts.
+/// Every content has exactly one of these judgements: a fault, which is the first that holds in
+/// this order, or its parts.
 pub fn the_faults_have_an_order()
     ensures too_long { (s : List ℕ) → line_limit < length s → HasFault s LineFault.TooLong }
     ensures bad_byte { (s : List ℕ) (place : ℕ) → length s ≤ line_limit → IsFirstBad s place →
@@ -40,7 +40,7 @@ pub fn the_spelling_reads_back()
         spelling p ≡ spelling q → p ≡ q }
 {}
 
-/// The values of `Line` are what contents can say: what the grammar gives of a content within 15
+/// The values of `Line` are what contents can say: what the grammar gives for a content within 15
 /// parameters is one, and each is said by its canonical spelling, of any length.
 pub fn a_line_is_what_a_content_says()
     ensures given { (s : List ℕ) (p : Parts) → IsLine s p → AreContent s → HasFew p →
@@ -50,8 +50,8 @@ pub fn a_line_is_what_a_content_says()
     ensures few { (p : Parts) → IsTrue (is_line p) → HasFew p }
 {}
 
-/// The items of bytes are those of what stands between their LFs, whatever comes in one piece; what
-/// follows the last LF gives nothing until its own LF comes.
+/// The items of bytes are those of what lies between their LFs, in however many pieces they come;
+/// what follows the last LF gives nothing until its own LF comes.
 pub fn the_items_are_what_line_feeds_end()
     ensures none { (s : List ℕ) → HasNoLineFeed s → (items s ≡ []) × (unended s ≡ s) }
     ensures one { (ended rest : List ℕ) → HasNoLineFeed ended → ItemsAreOfBoth ended rest }
@@ -60,9 +60,9 @@ pub fn the_items_are_what_line_feeds_end()
     ensures cut { (fed more : List ℕ) → IsCutAnywhere fed more }
 {}
 
-/// What stands between two LFs gives one item at most: none for an empty content, `TooLong` for one
-/// of more than 510 bytes, else what the content is judged to be. One CR at its end is none of the
-/// content.
+/// What lies between two LFs gives at most one item: none for an empty content, `TooLong` for one
+/// of more than 510 bytes, else what the content is judged to be. One CR at its end does not belong
+/// to the content.
 pub fn an_item_is_what_its_content_is()
     ensures with_return { (content : List ℕ) → without_return (content ++ 13 ∷ []) ≡ content }
     ensures without_return { (s : List ℕ) (b : ℕ) → ¬ (b ≡ 13) →

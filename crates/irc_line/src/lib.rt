@@ -1,6 +1,6 @@
-//! Lines and names of IRC: their grammar, how a content is read, and the one canonical spelling of a line.
-//! Stands under nearly all other crates, wire_bytes, client_gate and uplink among them.
-//! Promises that a content is read as the grammar says, or its first fault is told, and that a line has one spelling.
+//! Lines and names of IRC: their grammar, how a content is read, and the one canonical spelling of a line. Used by
+//! nearly all other crates, wire_bytes, client_gate and uplink among them. Promises that a content is read as the
+//! grammar says, or its first fault is returned, and that a line has one spelling.
 #![tactic(auto)]
 
 mod bytes;

@@ -8,18 +8,18 @@ ghost use Rattle.irc_line.specs.Limits.{parameter_limit};
 pub const CONTENT_LIMIT: usize = 510;
 
 /// The most bytes of a line's canonical spelling.
-// one more than of a content, whose last parameter may get a colon
+// one more than a content, since the last parameter may get a colon
 pub const LINE_LIMIT: usize = 511;
 
 /// The most parameters of a line (RFC 2812, 2.3).
 pub const PARAMETER_LIMIT: usize = 15;
 
 /// The most bytes of a name: of a nick, a channel, or what a client calls itself.
-// servers take far shorter ones
+// servers allow far shorter ones
 pub const NAME_LIMIT: usize = 64;
 
-/// The most bytes that are held of a content that has not ended.
-// a content, a CR, and the byte that tells that it is too long
+/// The most bytes held of a content that has not ended.
+// a content, a CR, and the byte that shows that it is too long
 pub const HELD_LIMIT: usize = 512;
 
 /// The limits by number, as the contract of a function that does nothing. With its CR LF a content has 512 bytes.

@@ -17,7 +17,7 @@ use std::marker::Model;
 #[derive(Drop)]
 pub struct Line {
     text: SharedBytes,
-    /// Where the command begins; 0 where there is no prefix.
+    /// Where the command begins; 0 if there is no prefix.
     command: usize,
     /// Where the command ends, and the parameters begin.
     tail: usize,
@@ -58,7 +58,7 @@ impl Line {
         Line::cut(text, start, end)
     }
 
-    /// The line of this canonical spelling, whose command stands between these places.
+    /// The line of this canonical spelling, whose command lies between these places.
     pub(crate) fn cut(text: Vec<u8>, command: usize, tail: usize) -> Result<Line, AllocError>
         requires { IsHeld text.items command tail }
         ensures { IfOk result (λ l. l ≡ cut_parts text.items command tail) }
@@ -70,7 +70,7 @@ impl Line {
         })
     }
 
-    /// A command to a target with a text, as `PRIVMSG` and `NOTICE` are (RFC 2812, 3.3).
+    /// A command with a target and a text, such as `PRIVMSG` and `NOTICE` (RFC 2812, 3.3).
     pub fn message(
         alloc: Global,
         prefix: Option<&[u8]>,
@@ -91,7 +91,7 @@ impl Line {
         )
     }
 
-    /// The line without its prefix. A line that has none is shared, and no memory is taken.
+    /// The line without its prefix. A line that has none is shared, and nothing is allocated.
     pub fn without_prefix(&self, alloc: Global) -> Result<Line, AllocError>
         ensures { IfOk result (λ l. l ≡ parts None self.now.command self.now.parameters) }
     {
@@ -102,7 +102,7 @@ impl Line {
         Line::cut(text, 0, self.tail - self.command)
     }
 
-    /// The prefix, without its colon, where there is one.
+    /// The prefix, without its colon, if there is one.
     pub fn prefix(&self) -> Option<&[u8]>
         ensures value { lent_prefix result ≡ self.now.prefix }
         ensures line { IsTrue (is_line self.now) }
@@ -129,7 +129,8 @@ impl Line {
         parameters_in(&self.spelling()[self.tail..])
     }
 
-    /// A parameter, from 0; no bytes where there is none. It is found from the first one on.
+    /// A parameter, from 0; no bytes if there is none. The parameters are searched from the first
+    /// one on.
     pub fn parameter(&self, i: usize) -> &[u8]
         ensures value { result.now ≡ parameter i self.now }
         ensures line { IsTrue (is_line self.now) }
@@ -152,8 +153,8 @@ impl Line {
         &self.text
     }
 
-    /// The line once more, of the same text. No memory is taken; it is refused only where the text
-    /// is shared more often than can be counted.
+    /// The line once more, with the same text. Nothing is allocated; it is refused only where the
+    /// text is shared more often than can be counted.
     pub fn share(&self) -> Result<Line, AllocError>
         ensures { IfOk result (λ l. l ≡ self.now) }
     {

@@ -26,7 +26,7 @@ impl Model for Name {
 }
 
 impl Name {
-    /// The name of these bytes, where they are one.
+    /// The name of these bytes, if they are one.
     pub fn from_bytes(bytes: Vec<u8>) -> Option<Name>
         ensures { MatchOption result (is_name bytes.items ≡ false) (IsPassed is_name bytes.items) }
     {

@@ -12,17 +12,18 @@ use crate::{Line, LineFault};
 use std::alloc::{AllocError, Global};
 
 impl Line {
-    /// The line of a content, which stands without its CR LF; else its first fault, in this order:
+    /// The line of a content, given without its CR LF; else its first fault, in this order:
     /// `TooLong` (more than 511 bytes), `BadByte`, `NoCommand` (an empty prefix too),
     /// `TooManyParameters`, and `TooLong` for a canonical spelling of more than 511 bytes.
     ///
-    /// `Memory` comes where the content is a line and no memory is left to build it.
+    /// `Memory` comes only where the content is a line and no memory is left to build it.
     pub fn parse(alloc: Global, content: &[u8]) -> Result<Line, LineFault>
         ensures ok { IfOk result (λ l. judged content.now ≡ Ok l) }
         ensures err { IfErr result (λ e. e ≢ LineFault.Memory → judged content.now ≡ Err e) }
         ensures memory { IfErr result (λ e. e ≡ LineFault.Memory → IsOk (judged content.now)) }
     {
-        // All faults come before the first allocation, so that want of memory hides none of them.
+        // All faults are found before the first allocation, so that running out of memory hides
+        // none of them.
         let draft = judge(content)?;
         if draft.is_spelled(content) {
             Ok(draft.copied(alloc, content)?)
@@ -94,7 +95,7 @@ fn draft_of(text: &[u8]) -> Option<Draft<'_>>
     }
 }
 
-/// The draft of what stands behind a prefix.
+/// The draft of what follows a prefix.
 fn draft_behind<'a>(prefix: Option<&'a [u8]>, text: &'a [u8]) -> Option<Draft<'a>>
     ensures { result ≡ read_command (lent_prefix prefix.entry) text.now }
 {

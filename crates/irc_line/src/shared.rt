@@ -36,8 +36,8 @@ impl SharedBytes {
         self.bytes.as_slice()
     }
 
-    /// The same bytes once more. No memory is taken; it is refused only where they are shared more
-    /// often than can be counted.
+    /// The same bytes once more. Nothing is allocated; it is refused only where they are shared
+    /// more often than can be counted.
     pub fn share(&self) -> Result<SharedBytes, AllocError>
         ensures { IfOk result (λ s. s ≡ self.now) }
     {

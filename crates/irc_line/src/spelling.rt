@@ -8,8 +8,7 @@ use crate::limits::CONTENT_LIMIT;
 use std::alloc::AllocError;
 
 impl Line {
-    /// Appends the canonical spelling, without CR LF. It is refused only where room is missing
-    /// and no memory is left.
+    /// Appends the canonical spelling, without CR LF. It is refused only if room is missing and no memory is left.
     pub fn write_to(&self, out: &mut Vec<u8>) -> Result<(), AllocError>
         ensures ok { OnOk result (out.new.items ≡ out.old.items ++ spelling self.now) }
         ensures err { OnErr result (out.new.items ≡ out.old.items) }
@@ -19,8 +18,8 @@ impl Line {
         out.extend_from_slice(self.spelling())
     }
 
-    /// Appends the first 510 bytes of the canonical spelling with CR LF, as a line leaves
-    /// (RFC 2812, 2.3: 512 bytes with CR LF). On the way there the whole spelling needs room.
+    /// Appends the first 510 bytes of the canonical spelling with CR LF, as a line is sent (RFC 2812, 2.3: 512 bytes
+    /// with CR LF). The whole spelling needs room before it is cut.
     pub fn write_cut(&self, out: &mut Vec<u8>) -> Result<(), AllocError>
         ensures ok { OnOk result (out.new.items ≡ out.old.items ++ cut_spelling self.now) }
         ensures err { OnErr result (out.new.items ≡ out.old.items) }
@@ -45,7 +44,7 @@ impl Line {
     }
 }
 
-/// Appends the canonical spelling of these parts, which need be no line's.
+/// Appends the canonical spelling of these parts, which need not be a line's.
 pub fn write_parts(
     out: &mut Vec<u8>,
     prefix: Option<&[u8]>,

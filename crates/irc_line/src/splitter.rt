@@ -11,13 +11,13 @@ use std::marker::Model;
 
 /// Splits bytes that come in pieces, however they are cut, into items.
 ///
-/// A LF ends a content, one CR before it is dropped, and an empty content gives nothing. A content
+/// An LF ends a content, one CR before it is dropped, and an empty content gives nothing. A content
 /// of more than 510 bytes is refused once, at its LF. What follows the last LF gives nothing yet.
 #[derive(Drop)]
 pub struct Splitter {
     alloc: Global,
-    /// The bytes since the last LF, up to the 512th, which tells that they are too many even with
-    /// a CR.
+    /// The bytes since the last LF, up to the 512th, which shows that they are too many even with a
+    /// CR.
     held: Vec<u8>,
 }
 
@@ -33,7 +33,7 @@ impl Model for Splitter {
 }
 
 impl Splitter {
-    /// A splitter that was fed nothing; it takes no memory.
+    /// A splitter that was fed nothing; it allocates nothing.
     #[tactic(auto, unfolding(crate::specs::Splitting::Stands))]
     pub fn new(alloc: Global) -> Splitter
         ensures { Stands result [] }
@@ -44,8 +44,8 @@ impl Splitter {
         }
     }
 
-    /// The items of the contents that these bytes end. Where no memory is left the splitter is as
-    /// before; none is asked for what follows the last LF past the 512th byte.
+    /// The items of the contents that these bytes end. If memory runs out the splitter is as
+    /// before; no memory is requested for what follows the last LF past the 512th byte.
     pub fn feed(&mut self, bytes: &[u8]) -> Result<Vec<Item>, AllocError>
         ensures stands { OnOk result (StandsBehind self.old bytes.now self.new) }
         ensures items { IfOk result (λ got. BringsItems self.old bytes.now got.items) }
@@ -65,7 +65,7 @@ impl Splitter {
         }
     }
 
-    /// What a LF gives, between what stands before it and the rest: the items, and the bytes that
+    /// What an LF gives, between what comes before it and the rest: the items, and the bytes that
     /// are then held.
     fn split(&self, ended: &[u8], rest: &[u8]) -> Result<(Vec<Item>, Vec<u8>), AllocError>
         ensures items { IfOk result (λ t. t.0.items ≡ items_at self.now ended.now rest.now) }
@@ -82,7 +82,7 @@ impl Splitter {
     }
 }
 
-/// What stands before the first LF, and what follows it.
+/// What comes before the first LF, and what follows it.
 fn at_line_feed(bytes: &[u8]) -> Option<(&[u8], &[u8])>
     ensures { MatchOption result (HasNoLineFeed bytes.now)
         (λ t. IsCutAtLineFeed bytes.now t.0.now t.1.now) }
@@ -99,7 +99,7 @@ fn line_feed_place(bytes: &[u8]) -> Option<usize>
     bytes.iter().position(|byte| *byte == b'\n')
 }
 
-/// The first bytes, so many where there are.
+/// The first `n` bytes, or all if there are fewer.
 fn at_most(bytes: &[u8], n: usize) -> &[u8]
     ensures value { result.now ≡ take n bytes.now }
     ensures bound { length result.now ≤ n }
@@ -120,7 +120,7 @@ fn hold(held: &mut Vec<u8>, bytes: &[u8]) -> Result<(), AllocError>
     held.extend_from_slice(at_most(bytes, room))
 }
 
-/// What stands before a LF, without the CR at its end.
+/// What comes before an LF, without the CR at its end.
 fn content_of(ended: &[u8]) -> &[u8]
     ensures { result.now ≡ without_return ended.now }
 {
@@ -145,7 +145,7 @@ fn judge(alloc: Global, content: &[u8]) -> Result<Item, AllocError>
     }
 }
 
-/// Adds the item, if any, of what stands before a LF.
+/// Adds the item, if any, of what comes before an LF.
 #[tactic(auto, unfolding(crate::specs::Splitting::ended_items))]
 fn push_item(alloc: Global, items: &mut Vec<Item>, ended: &[u8]) -> Result<(), AllocError>
     ensures { OnOk result (items.new.items ≡ items.old.items ++ ended_items ended.now) }
@@ -158,7 +158,7 @@ fn push_item(alloc: Global, items: &mut Vec<Item>, ended: &[u8]) -> Result<(), A
     Ok(())
 }
 
-/// Adds the items of the contents that these bytes end, and gives what follows the last LF.
+/// Adds the items of the contents that these bytes end, and returns what follows the last LF.
 fn push_items<'a>(
     alloc: Global,
     items: &mut Vec<Item>,

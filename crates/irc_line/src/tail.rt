@@ -1,4 +1,4 @@
-//! The parameters of what stands behind a command, one by one.
+//! The parameters of what follows a command, one by one.
 ghost use Rattle.std.specs.Prelude.{◌≡◌, ◌≤◌, ◌∷◌, [], IfOk, option_map, MatchOption, length, map, min, slice_get, unwrap_or};
 ghost use Rattle.irc_line.specs.Names.{same_bytes};
 ghost use Rattle.irc_line.specs.Lines.{has_colon, is_spoken, spelled_last};
@@ -12,7 +12,7 @@ use crate::spelling::is_a_trailing;
 use crate::word::{split_word, without_spaces};
 use std::alloc::{AllocError, Global};
 
-/// The first parameter, and what stands behind it; none where there are only spaces.
+/// The first parameter, and what follows it; none if there are only spaces.
 pub fn next_parameter(text: &[u8]) -> Option<(&[u8], &[u8])>
     ensures { MatchOption result (parameters_of text.now ≡ [])
         (λ t. IsFirstParameter text.now t.0.now t.1.now) }
@@ -24,7 +24,7 @@ pub fn next_parameter(text: &[u8]) -> Option<(&[u8], &[u8])>
     }
 }
 
-/// What stands behind a command, counted.
+/// The size of what follows a command.
 #[derive(Clone, Copy)]
 pub struct TailSize {
     pub parameters: usize,
@@ -55,7 +55,7 @@ pub fn parameters_in(text: &[u8]) -> usize
     }
 }
 
-/// A parameter of a text, from 0; no bytes where there is none.
+/// A parameter of a text, from 0; no bytes if there is none.
 pub fn nth_parameter(text: &[u8], i: usize) -> &[u8]
     ensures { result.now ≡ unwrap_or (slice_get (parameters_of text.now) i) [] }
 {
@@ -69,7 +69,7 @@ pub fn nth_parameter(text: &[u8], i: usize) -> &[u8]
     }
 }
 
-/// How many parameters a text has, and how long their canonical spelling behind this command is.
+/// How many parameters a text has, and how long their canonical spelling after this command is.
 pub fn tail_size(command: &[u8], text: &[u8]) -> TailSize
     ensures parameters { result.parameters ≡ length (parameters_of text.now) }
     ensures within { result.parameters ≤ length text.now }
@@ -105,7 +105,7 @@ fn last_len(command: &[u8], last: &[u8]) -> usize
     }
 }
 
-/// Whether these bytes are the canonical spelling of a text's parameters behind this command.
+/// Whether these bytes are the canonical spelling of a text's parameters after this command.
 pub fn are_spelled(command: &[u8], text: &[u8], bytes: &[u8]) -> bool
     ensures { result ≡ same_bytes (spelled_tail command.now text.now) bytes.now }
 {
@@ -115,7 +115,7 @@ pub fn are_spelled(command: &[u8], text: &[u8], bytes: &[u8]) -> bool
     }
 }
 
-/// Whether these bytes are the canonical spelling of a parameter and of those in the text behind.
+/// Whether these bytes are the canonical spelling of a parameter and of those in the text after it.
 fn are_spelled_from(command: &[u8], parameter: &[u8], text: &[u8], bytes: &[u8]) -> bool
     ensures { result ≡
         same_bytes (spelled_behind command.now (parameter.now ∷ parameters_of text.now)) bytes.now }
@@ -155,7 +155,7 @@ fn needs_colon(command: &[u8], last: &[u8]) -> bool
     is_a_trailing(last) || is_spoken_word(command)
 }
 
-/// Whether the last parameter behind this command, in any letters, always has a colon before it.
+/// Whether the last parameter after this command, in any letters, always has a colon before it.
 fn is_spoken_word(command: &[u8]) -> bool
     ensures { result ≡ is_spoken (map upper command.now) }
 {

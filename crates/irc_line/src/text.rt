@@ -25,7 +25,7 @@ impl Model for Text {
 }
 
 impl Text {
-    /// The text of these bytes, where they are one.
+    /// The text of these bytes, if they are one.
     pub fn from_bytes(bytes: Vec<u8>) -> Option<Text>
         ensures { MatchOption result (is_text bytes.items ≡ false) (IsPassed is_text bytes.items) }
     {

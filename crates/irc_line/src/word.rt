@@ -1,4 +1,4 @@
-//! Words of a content: what stands between its spaces.
+//! Words of a content: what lies between its spaces.
 ghost use Rattle.std.specs.Prelude.{◌≡◌, ◌≤◌, take, drop, length};
 ghost use Rattle.std.specs.List.{list_all};
 ghost use Rattle.irc_line.specs.Lines.{is_digit};

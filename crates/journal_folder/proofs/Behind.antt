@@ -17,7 +17,7 @@ behind_told boot told = omega arith
 behind_one : (n : ℕ) → n < n + 1
 behind_one n = omega arith
 
--- stores of the runs behind the first of these, in a term behind them all
+-- stores of the runs after the first of these, in a term after all theirs
 all_behind : (node nodes m : ℕ) (owns group : List (Saved TowerBody)) (log : List (Entry TowerBody))
     → AreBehind node owns group (all_begun_anew (are_next (take m (greatest_boots node nodes owns group))) (greatest_term group + 1) log)
 all_behind node nodes zero owns group log = tt
@@ -29,7 +29,7 @@ all_behind node (suc nodes) (suc m) owns group log = (
   all_behind (suc node) nodes m (drop 1 owns) group log,
 )
 
--- those of a plan
+-- for the stores of a plan
 pub of_a_plan : (nodes : ℕ) (group : List (Saved TowerBody)) (log : List (Entry TowerBody)) (boots : List ℕ) (term : ℕ) → boots ≡ are_next (take nodes (all_boots group)) → term ≡ greatest_term group + 1
     → AreBehind 1 group group (all_begun_anew boots term log)
 of_a_plan nodes group log boots term runs next =

@@ -18,7 +18,7 @@ one_of_seven = omega arith
 le_more : (n m : ℕ) → n ≤ n + m
 le_more n m = omega arith
 
--- so many entries, and as many more
+-- this many entries, and as many more
 pub one_block : {X : Type 0} (n m : ℕ) (xs : List X) → take n (take n xs) ++ take m (drop n xs) ≡ take (n + m) xs
 one_block n m xs =
     ap (λ (front : List _). front ++ take m (drop n xs)) (take-take n n xs (self_le n))
@@ -30,7 +30,7 @@ one_block n m xs =
 pub few : {X : Type 0} (m n : ℕ) (xs : List X) → length (take m (drop n xs)) ≤ m
 few m n xs = omega (arith, length-take m (drop n xs))
 
--- where so many are there, they and the next block are within the whole
+-- if there are this many, they and the next block are within the whole
 pub within : {X : Type 0} (n m : ℕ) (xs : List X) → n ≤ length xs → n + length (take m (drop n xs)) ≤ length xs
 within n m xs h = omega (arith, h, length-take m (drop n xs), length-drop n xs)
 
@@ -47,7 +47,7 @@ module _ {B : Type 0} where
         vote = (self_le 1, one_of_seven);
       })
 
-  -- and then one block more is saved
+  -- and then one more block is saved
   pub next_saved : (boot term block kept : ℕ) (log es : List (Entry B)) (s new : Saved B) → kept ≡ block * batch_limit → s ≡ begun_anew boot term (take (block * batch_limit) log)
       → es ≡ take batch_limit (drop kept log) → new ≡ begun_anew boot term (take kept s.log ++ es) → new ≡ begun_anew boot term (take ((block + 1) * batch_limit) log)
   next_saved boot term block kept log es s new at is entries saved =

@@ -4,7 +4,7 @@ use Rattle.bouncer_tower.specs.Bodies.{TowerBody}
 use Rattle.stable_store.specs.declared.saved.Saved.{Saved}
 use Rattle.journal_folder.specs.Counting.{boot_told, greatest_boots, own_boot}
 
--- that of the first one, and those of the others
+-- that of the first node, and those of the others
 pub one_more : (node n : ℕ) (owns group : List (Saved TowerBody)) → n ≢ 0
     → greatest_boots node n owns group ≡ max (own_boot owns) (boot_told node group) ∷ greatest_boots (node + 1) (n - 1) (drop 1 owns) group
 one_more node zero owns group h = absurd (h refl)
@@ -18,7 +18,7 @@ pub not_zero : (n : ℕ) → (n == 0) ≡ false → n ≢ 0
 not_zero zero h = λ e. absurd cc
 not_zero (suc n) h = λ e. absurd (omega (arith, e))
 
--- these and those of the others are pushed behind some
+-- these and those of the others are appended to some
 pub pushed : (node n value : ℕ) (owns others group : List (Saved TowerBody)) (old mid new : List ℕ) → n ≢ 0 → mid ≡ old ++ value ∷ [] → value ≡ max (own_boot owns) (boot_told node group) → others ≡ drop 1 owns
     → new ≡ mid ++ greatest_boots (node + 1) (n - 1) others group → new ≡ old ++ greatest_boots node n owns group
 pushed node n value owns others group old mid new some first is behind all =

@@ -1,4 +1,4 @@
--- What is found of a disk whose file is synced is what that file stands for.
+-- The state found on a disk whose file is synced is the one that the file stands for.
 use Rattle.std.proofs.Common.{◌≡◌, ℕ, List, Ok, Err, subst}
 use Rattle.wire_bytes.specs.Fields.{Reading}
 use Rattle.stable_store.specs.declared.saved.Saved.{Saved}

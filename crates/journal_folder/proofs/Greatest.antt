@@ -1,4 +1,4 @@
--- The greatest boot that a list tells of.
+-- The greatest boot that a list mentions.
 use Rattle.std.proofs.Common.{◌≡◌, ℕ, ◌≤◌, ◌<◌, max, suc, Some, List, [], ◌∷◌, length, drop, get_or, sym, ap, ◌∙◌, subst, arith}
 use Rattle.std.proofs.Math.Nat.{le-max_left, le-max_right}
 use Rattle.std.proofs.Math.Seq.{drop-cons}
@@ -11,7 +11,7 @@ use Rattle.raft_log.specs.declared.entry.Entry.{Entry}
 use Rattle.raft_log.specs.Lists.{item}
 use Rattle.journal_folder.specs.Runs.{greatest_boot, boot_in}
 
--- no entry tells of a later one
+-- no entry mentions a later one
 pub none_is_later : (node : ℕ) (es : List (Entry TowerBody)) → All (λ e. boot_in node e.body ≤ greatest_boot node es) es
 none_is_later node [] = All-nil (λ e. boot_in node e.body ≤ 0)
 none_is_later node (e ∷ es) =
@@ -42,7 +42,7 @@ one_more_at node greatest i k j b es e is next lt at most so_far =
     ∙ (ap (λ (x : Entry TowerBody). max (max greatest (boot_in node x.body)) (greatest_boot node (drop (suc i) es))) (sym there)
     ∙ (one_more node greatest i es e lt ∙ so_far)))
 
--- nor than the greatest of all
+-- nor one later than the greatest of all
 pub none_behind : (node greatest i : ℕ) (es : List (Entry TowerBody)) → max greatest (greatest_boot node (drop i es)) ≡ greatest_boot node es → length es ≤ i
     → All (λ e. boot_in node e.body ≤ greatest) es
 none_behind node greatest i es is h =

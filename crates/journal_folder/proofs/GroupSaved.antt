@@ -11,15 +11,15 @@ use Rattle.journal_folder.specs.Saving.{all_begun_anew, begun_anew}
 below_next : (i : ℕ) → i < i + 1
 below_next i = omega arith
 
--- what is left of two lists from a place on, element by element
+-- the rest of two lists from a place on, element by element
 same_front : {X : Type 0} (xs ys : List X) (i : ℕ) (d : X) → i < length xs → i < length ys → drop i xs ≡ drop i ys → get_or xs i d ∷ drop (i + 1) xs ≡ get_or ys i d ∷ drop (i + 1) ys
 same_front xs ys i d h k rest = sym (drop_more xs i d h) ∙ (rest ∙ drop_more ys i d k)
 
--- where a store is set, the ones behind it are as they were
+-- if a store is set, the ones after it are unchanged
 pub rest_behind : {X : Type 0} (xs ys : List X) (i : ℕ) (new : X) → i < length xs → i < length ys → drop i xs ≡ drop i ys → drop (i + 1) (set xs i new) ≡ drop (i + 1) ys
 rest_behind xs ys i new h k rest = drop-set-lt (i + 1) xs i new (below_next i) ∙ ap (λ (zs : List _). drop 1 zs) (same_front xs ys i new h k rest)
 
--- and it is the one that it was
+-- and the store at the place is the old one
 at_front : {X : Type 0} (xs ys : List X) (i : ℕ) (d : X) → i < length xs → i < length ys → drop i xs ≡ drop i ys → get_or xs i d ≡ get_or ys i d
 at_front xs ys i d h k rest = ap (λ (zs : List _). get_or zs 0 d) (same_front xs ys i d h k rest)
 
@@ -39,7 +39,7 @@ module _ {B Store : Type 0} (saved : Store → Saved B) (Honest : Store → Type
       ∙ (sym (map-append (λ (b : ℕ). begun_anew b term log) (take i boots) (boot ∷ []))
       ∙ ap (λ (ns : List ℕ). all_begun_anew ns term log) (sym next)))))
 
-  -- one more store of a group is saved, which is honest where all are
+  -- one more store of a group is saved; it is honest if all are
   pub next_saved : (stores olds : List Store) (old new : Store) (boots : List ℕ) (boot term i : ℕ) (log : List (Entry B)) → i < length stores → i < length olds → i < length boots
       → boot ≡ get_or boots i boot → drop i stores ≡ drop i olds → (Honest (get_or stores i old) → saved new ≡ begun_anew boot term log)
       → map saved (take i stores) ≡ all_begun_anew (take i boots) term log → All Honest olds → map saved (take (i + 1) (set stores i new)) ≡ all_begun_anew (take (i + 1) boots) term log

@@ -1,4 +1,4 @@
--- The last run that a list tells to have begun.
+-- The last run that began according to a list.
 use Rattle.std.proofs.Common.{◌≡◌, ℕ, ◌<◌, max, suc, Some, List, length, drop, get_or, sym, ap, ◌∙◌, subst, arith}
 use Rattle.std.proofs.Math.Seq.{drop-cons}
 use Rattle.std.proofs.lemmas.Option.{get_or_from_slice_get}

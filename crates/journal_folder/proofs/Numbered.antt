@@ -1,4 +1,4 @@
--- Things of the nodes of a group, one made for each node in their order.
+-- Items for the nodes of a group, one made for each node in their order.
 use Rattle.std.proofs.Common.{◌≡◌, List, [], ◌∷◌, ◌++◌, map, ap, append_assoc, ◌∙◌}
 use Rattle.std.proofs.lemmas.List.{map_push}
 
@@ -6,7 +6,7 @@ use Rattle.std.proofs.lemmas.List.{map_push}
 pub pushed : {X Y : Type 0} (f : X → Y) (xs ys : List X) (x : X) → ys ≡ xs ++ x ∷ [] → map f ys ≡ map f xs ++ f x ∷ []
 pushed f xs ys x is = ap (map f) is ∙ map_push f xs x
 
--- one more is made of what is y, and then those of the others
+-- one more is made for y, and then those for the others
 pub one_more : {X Y : Type 0} (f : X → Y) (old mid new : List X) (x : X) (y : Y) (rest : List Y) → mid ≡ old ++ x ∷ [] → f x ≡ y → map f new ≡ map f mid ++ rest
     → map f new ≡ map f old ++ y ∷ rest
 one_more {X} {Y} f old mid new x y rest is same all =

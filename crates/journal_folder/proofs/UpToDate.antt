@@ -15,11 +15,11 @@ module _ {B : Type 0} where
   pub as_itself : (saved : Saved B) → IsAsUpToDate saved saved
   as_itself saved = up_to_date_self (last_term saved.log) (length saved.log)
 
-  -- and as whatever one is that is no better than a third is
+  -- and the relation is transitive
   pub as_a_third : (a b c : Saved B) → IsAsUpToDate a b → IsAsUpToDate b c → IsAsUpToDate a c
   as_a_third a b c h k = up_to_date_on (last_term a.log) (length a.log) (last_term b.log) (length b.log) (last_term c.log) (length c.log) h k
 
-  -- the best of some and of the better one of two is the best of all
+  -- the best of some and the better of two is the best of all
   pub most_of_two : (chosen better first next : Saved B) (others : List (Saved B)) → IsAsUpToDate better first → IsAsUpToDate better next
       → IsMostUpToDate chosen (better ∷ others) → IsMostUpToDate chosen (first ∷ next ∷ others)
   most_of_two chosen better first next others h k most =

@@ -1,4 +1,4 @@
--- What lies beside a folder.
+-- What is beside a folder.
 use Rattle.std.specs.Prelude.{◌≡◌, ◌⊎◌, ℕ, ◌==◌, if◌then◌else◌, List, [], ◌∷◌, ◌++◌, Option, None, Some, IfSome, codes, decimal, map, option_map, string_bytes, ⊤}
 use Rattle.std.specs.List.{All}
 use Rattle.std.specs.Path.{path_file_name, path_with_file_name}
@@ -8,11 +8,11 @@ use Rattle.journal_folder.specs.declared.paths.NoPaths.{NoPaths}
 use Rattle.journal_folder.specs.declared.paths.NoPaths.TheVariants.{Memory, Nameless}
 use Rattle.journal_folder.specs.declared.paths.Paths.{Paths}
 
--- in the same folder, the name of this one with an ending; none where it has no name of its own, as `.` and `/`
+-- in the same folder, the name of this one with an ending; none if it has no name of its own, such as `.` and `/`
 abbrev pub beside : List ℕ → List ℕ → Option (List ℕ)
 beside folder ending = option_map (λ name. path_with_file_name folder (name ++ codes "." ++ ending)) (path_file_name folder)
 
--- the new journals of a folder lie beside it, under one name until all are whole, and under another one from then on
+-- the new journals of a folder are beside it, under one name until all are whole, and under another one from then on
 abbrev pub ArePaths : List ℕ → Option Paths → Type 0
 ArePaths folder None = beside folder (codes "renewing") ≡ None
 ArePaths folder (Some paths) =
@@ -38,12 +38,12 @@ abbrev pub IsNameless : List (List ℕ) → List ℕ → Type 0
 IsNameless [] path = ⊥
 IsNameless (folder ∷ folders) path = ((path ≡ folder) × (beside folder (codes "renewing") ≡ None)) ⊎ IsNameless folders path
 
--- nothing lies beside one of these folders, which is told, or there is no memory
+-- nothing can be beside one of these folders, which is named, or memory ran out
 abbrev pub IsNamelessIn : List (List ℕ) → NoPaths → Type 0
 IsNamelessIn folders (Nameless path) = IsNameless folders (string_bytes path)
 IsNamelessIn folders Memory = ⊤
 
--- where an old folder was moved, it lies beside the one whose it was, under a name of an old folder
+-- if an old folder was moved, it is now beside its old place, under the name of an old folder
 abbrev pub IsOldFolder : OldFolder → Type 0
 IsOldFolder old = IfSome old.old (λ name. IsOldName (string_bytes old.folder) (string_bytes name))
 

@@ -1,4 +1,4 @@
--- What is found of a journal by the bytes of its file.
+-- The state of a journal, from the bytes of its file.
 use Rattle.std.specs.Prelude.{◌≡◌, ◌⊎◌, ◌≤◌, ℕ, List, Ok, Err, length, ⊤}
 use Rattle.wire_bytes.specs.Fields.{Reading}
 use Rattle.bouncer_tower.specs.Bodies.{TowerBody}
@@ -14,7 +14,8 @@ use Rattle.journal_folder.specs.declared.standing.Journal.{Journal}
 use Rattle.journal_folder.specs.declared.standing.Journal.TheVariants.{Lost, Whole}
 
 module _ (body : Reading TowerBody) where
-  -- It holds what its file stands for, or nothing where it is no longer than an empty one; it is lost where the file is no journal or damaged
+  -- It holds what its file stands for, or nothing if it is no longer than an empty one; it is lost if the file is no
+  -- journal or damaged
   abbrev pub IsContent : List ℕ → Journal → Type 0
   IsContent file (Whole saved) = (found (payloads body) nothing_saved file ≡ Ok saved) ⊎ ((length file ≤ 9) × (saved ≡ nothing_saved))
   IsContent file (Lost loss.NotAStore) = found (payloads body) nothing_saved file ≡ Err fault.NotAStore
@@ -23,7 +24,7 @@ module _ (body : Reading TowerBody) where
   IsContent file (Lost loss.Empty) = ⊥
   IsContent file (Lost loss.Older) = ⊥
 
-  -- it is refused: it is of another version, or there is no memory
+  -- it is refused: it is of another version, or memory ran out
   abbrev pub IsNoContent : List ℕ → StoreFault → Type 0
   IsNoContent file fault.Version = found (payloads body) nothing_saved file ≡ Err fault.Version
   IsNoContent file fault.Memory = ⊤
@@ -31,7 +32,7 @@ module _ (body : Reading TowerBody) where
   IsNoContent file (fault.Damaged place) = ⊥
   IsNoContent file fault.Device = ⊥
 
--- a journal that is not opened is lost: its file is none, or damaged
+-- a journal that can't be opened is lost: its file is no journal, or damaged
 abbrev pub IsLoss : OpenFault → Type 0
 IsLoss (opening.Store fault.NotAStore) = ⊤
 IsLoss (opening.Store (fault.Damaged place)) = ⊤

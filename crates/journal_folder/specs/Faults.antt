@@ -1,4 +1,4 @@
--- Why a log is not begun anew.
+-- Why a log is not renewed.
 use Rattle.std.specs.Prelude.{◌≡◌, ◌≤◌, ◌*◌, ℕ, List, length, string_bytes, ⊤}
 use Rattle.journal_folder.specs.Beside.{IsNameless}
 use Rattle.journal_folder.specs.Losses.{IsPastLast, losses_among}
@@ -6,7 +6,7 @@ use Rattle.journal_folder.specs.declared.standing.NodeJournal.{NodeJournal}
 use Rattle.journal_folder.specs.declared.fault.RenewFault.{RenewFault}
 use Rattle.journal_folder.specs.declared.fault.RenewFault.TheVariants.{Busy, Change, Journal, Loss, Memory, Mixed, NoFreeName, Renewal, Setup, Spent, StillLong, System, TooFew, UnknownName, Unnamed, Unread}
 
--- the system refuses it, or there is no memory
+-- the system refuses it, or memory ran out
 abbrev pub IsOfFiles : RenewFault → Type 0
 IsOfFiles (Journal refused) = ⊤
 IsOfFiles (System path error) = ⊤
@@ -44,7 +44,8 @@ IsOfHolding (Renewal fault) = ⊥
 IsOfHolding Spent = ⊤
 IsOfHolding Memory = ⊤
 
--- Nothing stands for the journals of a group: half of them or more are lost, which are told, or no runs are left, or there is no memory
+-- The journals of a group have no states: half of them or more are lost, which are reported, or no runs are left, or
+-- memory ran out
 abbrev pub IsOfStanding : List NodeJournal → RenewFault → Type 0
 IsOfStanding group (Journal refused) = ⊥
 IsOfStanding group (TooFew few) = (few.lost.journals.items ≡ losses_among group group) × (length group ≤ 2 * length (losses_among group group))
@@ -63,7 +64,7 @@ IsOfStanding group (Renewal fault) = ⊥
 IsOfStanding group Spent = IsPastLast group group
 IsOfStanding group Memory = ⊤
 
--- the log can't be begun anew, no numbers are left, or there is no memory
+-- the log can't be renewed, no numbers are left, or memory ran out
 abbrev pub IsOfLists : RenewFault → Type 0
 IsOfLists (Renewal fault) = ⊤
 IsOfLists (UnknownName name) = ⊤
@@ -82,7 +83,7 @@ IsOfLists (Busy path) = ⊥
 IsOfLists (NoFreeName path) = ⊥
 IsOfLists (Unnamed path) = ⊥
 
--- that a folder has no name comes with one of these folders, which has none
+-- the fault that a folder has no name names one of these folders, which has none
 abbrev pub IsUnnamedIn : List (List ℕ) → RenewFault → Type 0
 IsUnnamedIn folders (Unnamed path) = IsNameless folders (string_bytes path)
 IsUnnamedIn folders (Journal refused) = ⊤

@@ -6,17 +6,17 @@ use Rattle.journal_folder.specs.Nodes.{all_nodes}
 use Rattle.journal_folder.specs.declared.standing.NodeJournal.{NodeJournal}
 use Rattle.journal_folder.specs.declared.standing.Standing.{Standing}
 
--- one of each node of a group of this size, node 1's first
+-- one for each node of a group of this size, node 1's first
 abbrev pub AreOfNodes : ℕ → List NodeJournal → Type 0
 AreOfNodes size journals = map (λ first. first.node) journals ≡ take size all_nodes
 
--- this stands for some journals, one of each node of a group of this size
+-- these are the states of some journals, one for each node of a group of this size
 pub record StandsForSome (size : ℕ) (standing : Standing) : Type 0 where
   pub group : List NodeJournal
   pub nodes : AreOfNodes size group
   pub stands : Stands group standing
 
--- something stands for the journals of a store
+-- the journals of a store have states
 pub record IsHeld (store : StoreSetup) : Type 0 where
   pub standing : Standing
   pub stands : StandsForSome store.nodes standing

@@ -1,4 +1,4 @@
--- How far the renewal of some folders came.
+-- How far the renewal of some folders has come.
 use Rattle.std.specs.Prelude.{Bool, true, false, not, ◌||◌, if◌then◌else◌, List, [], ◌∷◌}
 use Rattle.journal_folder.specs.declared.marks.Stage.{Stage}
 use Rattle.journal_folder.specs.declared.marks.Stage.TheVariants as stage
@@ -20,7 +20,7 @@ is_old stage.Old = true
 is_old stage.Marked = false
 is_old stage.Placed = false
 
--- beside one of the folders lies a renewed one
+-- there is a renewed folder beside one of the folders
 abbrev pub has_marked : List Stage → Bool
 has_marked [] = false
 has_marked (first ∷ stages) = is_marked first || has_marked stages
@@ -30,12 +30,12 @@ abbrev pub has_placed : List Stage → Bool
 has_placed [] = false
 has_placed (first ∷ stages) = is_placed first || has_placed stages
 
--- one of them is as it was
+-- one of them is the old one
 abbrev pub has_old : List Stage → Bool
 has_old [] = false
 has_old (first ∷ stages) = is_old first || has_old stages
 
--- No folder is renewed before beside each of them lies one that is whole. So a renewal is decided where all are marked, and where one is renewed
--- already; where only some are marked it was not
+-- No folder is replaced before there is a whole renewed one beside each of them. So a renewal is decided if all are
+-- marked, or if one is already replaced; if only some are marked it was not
 abbrev pub marks_of : List Stage → Marks
 marks_of stages = if not (has_marked stages) then Absent else (if has_placed stages || not (has_old stages) then Decided else Open)

@@ -16,15 +16,15 @@ use Rattle.journal_folder.specs.declared.changed_keys.ChangedKeys.{ChangedKeys}
 use Rattle.journal_folder.specs.declared.settled.Settled.{Settled}
 use Rattle.journal_folder.specs.declared.settled.Settled.TheVariants.{Changed, Described, Long, Lost, Made, Same, StaysLong}
 
--- the log of some store, whose values of these keys differ from a setup and so many nodes, was begun anew to them
+-- the log of some store, whose values of these keys differ from a setup and this many nodes, was renewed for these
 pub record IsChanged (t : Settings) (nodes : ℕ) (keys : ChangedKeys) (told : Renewed) : Type 0 where
   pub store : StoreSetup
   pub keys_are : keys.keys.items ≡ changed_keys store t nodes
   pub some : keys.keys.items ≢ []
   pub renewed : IsToldOf store t [] nodes told
 
--- Journals of some store were lost, which are told, and fewer than half of them; its log was begun anew from what stands for all of them. The
--- values of these keys differ from a setup and so many nodes
+-- Journals of some store, fewer than half of them, were lost, which are reported; its log was renewed from the states
+-- of all of them. The values of these keys differ from a setup and this many nodes
 pub record IsWithout (t : Settings) (nodes : ℕ) (keys : ChangedKeys) (told : Renewed) : Type 0 where
   pub store : StoreSetup
   pub keys_are : keys.keys.items ≡ changed_keys store t nodes
@@ -33,8 +33,8 @@ pub record IsWithout (t : Settings) (nodes : ℕ) (keys : ChangedKeys) (told : R
   pub some : told.lost.journals.items ≢ []
   pub of_it : IsTold store.setup t [] nodes group.standing.saved.items told
 
--- a log of some store of this setup and of so many nodes had more entries than that, and the one that counts was begun anew by one that has
--- no more
+-- a log of some store with this setup and this many nodes had more entries than that, and the one that counts was
+-- replaced by a renewed one that has no more
 pub record IsShortened (t : Settings) (nodes renew_at : ℕ) (told : Renewed) : Type 0 where
   pub store : StoreSetup
   pub same : IsOf store t nodes
@@ -44,8 +44,8 @@ pub record IsShortened (t : Settings) (nodes renew_at : ℕ) (told : Renewed) : 
   pub long : renew_at < most_entries group
   pub short : told.now ≤ renew_at
 
--- A log is begun anew where its store is of another setup or of another number of nodes, where journals are lost, or where it may be too long:
--- that is nowhere where that number is 0
+-- A log is renewed if its store has another setup or another number of nodes, if journals are lost, or if it may be too
+-- long, which is never so if that number is 0
 abbrev pub IsSettled : Settings → ℕ → ℕ → Settled → Type 0
 IsSettled t nodes renew_at (Changed keys told) = IsChanged t nodes keys told
 IsSettled t nodes renew_at (Lost keys told) = IsWithout t nodes keys told
@@ -55,13 +55,13 @@ IsSettled t nodes renew_at (Made file) = Unit {0}
 IsSettled t nodes renew_at (Described file) = Unit {0}
 IsSettled t nodes renew_at Same = Unit {0}
 
--- the values of these keys differ between some store, and a setup and so many nodes
+-- the values of these keys differ between some store, and a setup and this many nodes
 pub record IsOther (t : Settings) (nodes : ℕ) (keys : ChangedKeys) : Type 0 where
   pub store : StoreSetup
   pub keys_are : keys.keys.items ≡ changed_keys store t nodes
   pub some : keys.keys.items ≢ []
 
--- journals of some store are lost, and the values of these keys differ from a setup and so many nodes
+-- journals of some store are lost, and the values of these keys differ from a setup and this many nodes
 pub record IsLosing (t : Settings) (nodes : ℕ) (lost : LostJournals) (keys : ChangedKeys) : Type 0 where
   pub store : StoreSetup
   pub keys_are : keys.keys.items ≡ changed_keys store t nodes
@@ -69,7 +69,8 @@ pub record IsLosing (t : Settings) (nodes : ℕ) (lost : LostJournals) (keys : C
   pub are : lost.journals.items ≡ group.standing.lost.journals.items
   pub some : lost.journals.items ≢ []
 
--- where a store is of another setup or of another number of nodes, where journals are lost, or where its log is too long, it is said so
+-- if a store has another setup or another number of nodes, if journals are lost, or if its log is too long, this says
+-- so
 abbrev pub IsComing : Settings → ℕ → ℕ → Coming → Type 0
 IsComing t nodes renew_at (coming.Changed keys) = IsOther t nodes keys
 IsComing t nodes renew_at (coming.Lost lost keys) = IsLosing t nodes lost keys

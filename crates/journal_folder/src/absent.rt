@@ -16,9 +16,9 @@ use std::alloc::Global;
 use std::fs::Files;
 use store_setup::{changed, spell};
 
-/// What the store in the folders of these nodes says of itself, byte by byte, where it goes on as it is under a
-/// configuration without the others: each of these folders says the same, no key was changed, and something is saved in
-/// each of their journals. `Mixed` where two of the folders say something else.
+/// What the store in the folders of these nodes records about itself, byte by byte, if it goes on as it is under a
+/// configuration without the others: each of these folders records the same, no key was changed, and something is saved
+/// in each of their journals. `Mixed` if two of the folders differ.
 pub fn goes_on<R: Files + AllocGlobal>(
     rt: &R,
     folders: &[String],
@@ -47,7 +47,7 @@ pub fn goes_on<R: Files + AllocGlobal>(
     Ok(Some(bytes))
 }
 
-/// The same of one folder, in which the journal of a node lies.
+/// The same for one folder, which has the journal of a node.
 fn goes_on_at<R: Files + AllocGlobal>(
     rt: &R,
     folder: &str,
@@ -70,7 +70,7 @@ fn goes_on_at<R: Files + AllocGlobal>(
     Ok(Some(spell(alloc, &store)?))
 }
 
-/// That the folders of two nodes say something else of their store.
+/// The fault that the folders of two nodes record different things about their store.
 fn differ(
     alloc: Global,
     folders: &[String],

@@ -1,4 +1,4 @@
-//! What stands in the journals of a store, which stay locked.
+//! What is saved in the journals of a store, which stay locked.
 ghost use Rattle.std.specs.Prelude.{◌≡◌, ◌≤◌, ◌∷◌, ◌++◌, [], IfErr, IfOk, OnOk, length, map, take};
 ghost use Rattle.journal_folder.specs.Faults.{IsOfFiles, IsOfHolding};
 ghost use Rattle.journal_folder.specs.Holding.{StandsForSome};
@@ -19,17 +19,18 @@ use stable_store::StoreFault;
 use std::alloc::{AllocError, Global};
 use std::fs::{File, Files};
 
-/// The journals of a group, as far as they are there.
+/// The journals of a group, as far as they exist.
 #[derive(Drop)]
 pub struct Group {
-    /// What stands for them.
+    /// Their states.
     pub standing: Standing,
-    /// No other program opens them as long as these are there.
+    /// No other program opens them as long as these exist.
     pub locks: Vec<NodeLock>,
 }
 
 impl Group {
-    /// The journals in the folders of a group of this size, more than half of which are whole. None is made or written.
+    /// The journals in the folders of a group of this size, more than half of which must be whole. None is made or
+    /// written.
     pub fn adopt<R: Files<File = File> + AllocGlobal>(
         rt: &R,
         folders: &[String],
@@ -57,7 +58,7 @@ impl Group {
     }
 }
 
-/// What is found of some nodes' journals, each of which that is there is locked.
+/// The states of some nodes' journals, each of which is locked if it exists.
 #[derive(Drop)]
 struct Gathered {
     journals: Vec<NodeJournal>,
@@ -65,7 +66,7 @@ struct Gathered {
 }
 
 impl Gathered {
-    /// The journal of one more node.
+    /// Adds the journal of one more node.
     fn add<R: Files<File = File> + AllocGlobal>(
         &mut self,
         rt: &R,
@@ -95,7 +96,7 @@ impl Gathered {
         Ok(())
     }
 
-    /// One more journal, and its lock.
+    /// Adds one more journal, and its lock.
     #[tactic(auto, using(crate::proofs::Numbered::pushed))]
     fn push(&mut self, journal: NodeJournal, lock: NodeLock) -> Result<(), AllocError>
         ensures journals { OnOk result (map (λ first. first.node) self.new.journals.items
@@ -120,7 +121,7 @@ pub fn first_log(journals: &[NodeJournal]) -> Option<&Log<TowerBody>> {
     }
 }
 
-/// What is found of a journal that is locked.
+/// The state of a journal that is locked.
 fn read_locked(
     alloc: Global,
     disk: &mut Option<FileDisk<SystemFile>>,
@@ -132,7 +133,7 @@ fn read_locked(
     }
 }
 
-/// What is found of the journal on a disk.
+/// The state of the journal on a disk.
 fn read_disk(
     alloc: Global,
     disk: &mut FileDisk<SystemFile>,

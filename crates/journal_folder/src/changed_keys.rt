@@ -1,4 +1,4 @@
-//! The keys of a configuration whose values differ from what a store is of.
+//! The keys of a configuration whose values differ from those of a store.
 ghost use Rattle.std.specs.Prelude.{◌≡◌, ◌≢◌, ◌↔◌, ◌<◌, [], false, IfOk, IsTrue, length};
 ghost use Rattle.raft_log.specs.Peers.{IsGroupSize};
 ghost use Rattle.store_setup.specs.Changes.{IsOf, changed_keys};
@@ -9,7 +9,7 @@ use std::alloc::{AllocError, Global};
 use std::fmt;
 use store_setup::{StoreSetup, changed};
 
-/// The keys of a configuration whose values differ from what a store is of.
+/// The keys of a configuration whose values differ from those of a store.
 #[derive(Debug, Drop)]
 pub struct ChangedKeys {
     keys: Vec<Key>,
@@ -28,7 +28,7 @@ impl ChangedKeys {
         Ok(ChangedKeys { keys })
     }
 
-    /// Whether there is none.
+    /// Whether there are none.
     pub fn is_none(&self) -> bool
         ensures none { IsTrue result → self.now.keys.items ≡ [] }
         ensures some { result ≡ false → self.now.keys.items ≢ [] }
@@ -57,7 +57,7 @@ impl fmt::Display for ChangedKeys {
     }
 }
 
-/// What stands before the word at this index of so many.
+/// What is put before the word at this index of this many.
 fn joint(index: usize, count: usize) -> &'static str
     requires { index < count }
 {

@@ -1,4 +1,4 @@
-//! What the next start will do with the store in a folder, as `bouncer check` tells it.
+//! What the next start will do with the store in a folder, as `bouncer check` reports it.
 ghost use Rattle.std.specs.Prelude.{◌≡◌, IfOk};
 
 use crate::changed_keys::ChangedKeys;
@@ -17,21 +17,21 @@ use wire_bytes::Number;
 pub enum Coming {
     /// There is none: a new one is made.
     New,
-    /// It says nothing of its setup, and is taken to be of the configuration's.
+    /// It records nothing of its setup, and is assumed to have the configuration's.
     Describe,
     /// It goes on.
     Same,
-    /// Its log is begun anew, since the values of these keys differ.
+    /// Its log will be renewed, since the values of these keys differ.
     Changed(ChangedKeys),
-    /// Its log is begun anew, since these journals are lost. The values of these keys differ, if any do.
+    /// Its log will be renewed, since these journals are lost. The values of these keys differ, if there are any.
     Lost(LostJournals, ChangedKeys),
-    /// Its log is begun anew, since it is too long. It has so many entries.
+    /// Its log will be renewed, since it is too long. It has this many entries.
     Long(Number),
-    /// Its log has more entries than it is to have, and can't be begun anew. It goes on as it was.
+    /// Its log has more entries than it should have, and can't be renewed. It goes on as it is.
     StaysLong(RenewFault),
 }
 
-/// What the next start will do with a store, and the names of the clients that it has.
+/// What the next start will do with a store, and the names of its clients.
 #[derive(Drop)]
 pub struct Foretold {
     pub coming: Coming,
@@ -49,7 +49,7 @@ impl Foretold {
         }
     }
 
-    /// What comes of a store, with the names in the log of its group that counts.
+    /// What will be done with a store, with the names in the log of its group that counts.
     pub fn of(
         alloc: Global,
         coming: Coming,

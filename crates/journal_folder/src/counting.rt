@@ -1,4 +1,4 @@
-//! What the journals of a group tell: which log counts, and the greatest numbers that there were.
+//! What the journals of a group show: which log counts, and the greatest numbers so far.
 ghost use Rattle.std.specs.Prelude.{◌≡◌, ◌⊎◌, ◌∷◌, ◌++◌, ◌≤◌, ◌+◌, IfOk, OnOk, drop, length, max};
 ghost use Rattle.journal_folder.specs.Counting.{IsAsUpToDate, IsMostUpToDate, IsOneOf};
 ghost use Rattle.journal_folder.specs.Counting.{all_boots, boot_told, greatest_boots, greatest_term, most_entries, own_boot};
@@ -11,16 +11,16 @@ use stable_store::Saved;
 use std::alloc::{AllocError, Global};
 use wire_bytes::{MOST_NODES, Number, Wire};
 
-/// The greatest numbers that the journals of a group tell of.
+/// The greatest numbers that the journals of a group mention.
 #[derive(Drop)]
 pub struct Numbers {
-    /// Of each node the greatest run, node 1's first.
+    /// The greatest run of each node, node 1's first.
     pub boots: Vec<Number>,
     pub term: Number,
 }
 
-/// The greatest numbers that the journals of a group tell of, of each node that a group may have: also of one that is
-/// not of this group, which may have been of an earlier one.
+/// The greatest numbers that the journals of a group mention, for each node that a group may have: also for one outside
+/// of this group, which may have belonged to an earlier one.
 pub fn greatest_of(alloc: Global, group: &[Saved<TowerBody>]) -> Result<Numbers, AllocError>
     ensures boots { IfOk result (λ n. n.boots.items ≡ all_boots group.now) }
     ensures count { IfOk result (λ n. length n.boots.items ≡ node_limit) }
@@ -34,8 +34,8 @@ pub fn greatest_of(alloc: Global, group: &[Saved<TowerBody>]) -> Result<Numbers,
     })
 }
 
-/// Of the stores of a group the one whose log counts: of those that end in the greatest term a longest one. Its
-/// node could be elected by all others as they stand, so it holds whatever was committed.
+/// Among the stores of a group, the one whose log counts: a longest one of those that end in the greatest term. All
+/// other nodes could vote for its node with their present logs, so it holds whatever was committed.
 #[tactic(auto, using(crate::proofs::UpToDate::most_of_two, crate::proofs::UpToDate::one_of_two, crate::proofs::UpToDate::as_itself))]
 pub fn most_up_to_date<'a, B: Wire>(first: &'a Saved<B>, others: &'a [Saved<B>]) -> &'a Saved<B>
     ensures most { IsMostUpToDate result.now (first.now ∷ others.now) }
@@ -73,7 +73,7 @@ fn better<'a, B: Wire>(first: &'a Saved<B>, second: &'a Saved<B>) -> &'a Saved<B
     }
 }
 
-/// The greatest run of each of so many nodes, the first of which is this one and has the first of these stores.
+/// The greatest run of each of this many nodes, the first of which is this one and has the first of these stores.
 #[tactic(auto, using(crate::proofs::Boots::one_more))]
 fn push_boots(
     boots: &mut Vec<Number>,
@@ -96,7 +96,7 @@ fn push_boots(
     push_boots(boots, node + 1, nodes - 1, others_of(owns), group)
 }
 
-/// The runs so far that the first of these stores says, 0 where there is none.
+/// The runs so far according to the first of these stores, 0 if there is none.
 fn own_boot(owns: &[Saved<TowerBody>]) -> Number
     ensures { result ≡ own_boot owns.now }
 {
@@ -106,7 +106,7 @@ fn own_boot(owns: &[Saved<TowerBody>]) -> Number
     }
 }
 
-/// The stores behind the first one.
+/// The stores after the first one.
 fn others_of(owns: &[Saved<TowerBody>]) -> &[Saved<TowerBody>]
     ensures { result.now ≡ drop 1 owns.now }
 {
@@ -126,7 +126,7 @@ pub fn most_entries<B: Wire>(group: &[Saved<B>]) -> Number
     }
 }
 
-/// The greatest run of a node that logs of a group tell of.
+/// The greatest run of a node that logs of a group mention.
 fn boot_told(node: NodeId, group: &[Saved<TowerBody>]) -> Number
     ensures { result ≡ boot_told node group.now }
 {

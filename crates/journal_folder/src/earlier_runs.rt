@@ -1,4 +1,4 @@
-//! What a list tells of a node's runs.
+//! What a list says about a node's runs.
 ghost use Rattle.std.specs.Prelude.{◌≡◌, ◌≤◌};
 ghost use Rattle.std.specs.List.{All};
 ghost use Rattle.journal_folder.specs.Runs.{boot_in, boot_in_claims, boot_in_command, boot_in_session, boot_of};
@@ -14,7 +14,7 @@ use session_fence::FenceCommand;
 use upstream_claim::ClaimsCommand;
 use wire_bytes::{Number, Origin};
 
-/// The greatest boot of a node that the entries of a log tell of, 0 where they tell of none.
+/// The greatest boot of a node that the entries of a log mention, 0 if they mention none.
 #[tactic(auto, using(crate::proofs::Greatest::one_more, crate::proofs::Greatest::none_is_later))]
 pub fn greatest_boot(node: NodeId, log: &Log<TowerBody>) -> u64
     ensures greatest { result ≡ greatest_boot node log.now }
@@ -29,7 +29,7 @@ pub fn greatest_boot(node: NodeId, log: &Log<TowerBody>) -> u64
     greatest
 }
 
-/// The last run of a node that the entries of a log tell to have begun, 0 where they tell of none.
+/// The last run of a node that has begun according to the entries of a log, 0 if there is none.
 #[tactic(auto, using(crate::proofs::Last::one_more))]
 pub fn last_run(node: NodeId, log: &Log<TowerBody>) -> u64
     ensures last { result ≡ last_run node log.now }
@@ -43,14 +43,14 @@ pub fn last_run(node: NodeId, log: &Log<TowerBody>) -> u64
     last
 }
 
-/// The run of a node that a body tells to have begun, 0 where it tells of none.
+/// The run of a node that has begun according to a body, 0 if there is none.
 fn run_in(node: NodeId, body: &TowerBody) -> u64
     ensures run { result ≡ run_in node body.now }
     ensures limit { result ≤ number_limit }
 {
     let boot = boot_in(node, body);
     if is_floor(body) {
-        // a run of the floor itself may never be
+        // a run of the floor itself may never begin
         boot.saturating_sub(1)
     } else {
         boot
@@ -94,7 +94,7 @@ fn is_floor_command(command: &Command) -> bool
     }
 }
 
-/// The boot of a node that a body tells of, 0 where it tells of none.
+/// The boot of a node that a body mentions, 0 if it mentions none.
 pub fn boot_in(node: NodeId, body: &TowerBody) -> u64
     ensures boot { result ≡ boot_in node body.now }
     ensures limit { result ≤ number_limit }
@@ -111,7 +111,7 @@ pub fn boot_in(node: NodeId, body: &TowerBody) -> u64
     }
 }
 
-/// The boot of a client, where it is of this node.
+/// The boot of a client, if it is of this node.
 fn boot_of(node: NodeId, origin: Origin) -> u64
     ensures boot { result ≡ boot_of node origin }
     ensures limit { result ≤ number_limit }

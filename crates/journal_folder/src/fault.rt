@@ -1,4 +1,4 @@
-//! Why a log is not begun anew.
+//! Why a log is not renewed.
 ghost use Rattle.std.specs.Prelude.{◌≡◌, IsTrue};
 ghost use Rattle.journal_folder.specs.Faults.{IsOfFiles, IsOfLists};
 ghost use Rattle.journal_folder.specs.declared.fault.RenewFault.TheVariants.{Memory, Renewal};
@@ -17,7 +17,7 @@ use store_setup::SetupFileFault;
 use thiserror::Error;
 use wire_bytes::Number;
 
-/// Why a log is not begun anew, and what to do.
+/// Why a log is not renewed, and what to do.
 #[derive(Debug, Drop, Error)]
 pub enum RenewFault {
     /// A journal is open, or can't be opened or read.
@@ -40,7 +40,7 @@ pub enum RenewFault {
     /// The folders are not those of one store.
     #[error("{0}")]
     Mixed(Mixed),
-    /// Another program changes what the store is.
+    /// Another program is changing what the store records about itself.
     #[error("{0}: another program changed it just now: end that one first")]
     Busy(String),
     #[error("{0}: too many old folders lie beside it: move them away, then try again")]
@@ -48,13 +48,13 @@ pub enum RenewFault {
     /// A name that is to be forgotten.
     #[error("{0}: no client has that name, so nothing was changed: 'bouncer check' lists the names of clients")]
     UnknownName(String),
-    /// The log can't be begun anew.
+    /// The log can't be renewed.
     #[error("{0}")]
     Renewal(RenewalFault),
-    /// The log can't be begun anew, as it would have to be since the values of these keys changed.
+    /// The log can't be renewed, which it would have to be since the values of these keys changed.
     #[error("{0} changed, and the log can't be begun anew for that: {1}; with the old values it goes on")]
     Change(ChangedKeys, RenewalFault),
-    /// The log can't be begun anew, as it would have to be since these journals are lost.
+    /// The log can't be renewed, which it would have to be since these journals are lost.
     #[error("{0}, and the log can't be begun anew from the others: {1}")]
     Loss(LostJournals, RenewalFault),
     /// The new log would not be short enough.
@@ -68,14 +68,14 @@ pub enum RenewFault {
 }
 
 impl RenewFault {
-    /// A journal is refused.
+    /// A journal was refused.
     pub fn of_journal(path: String, fault: OpenFault) -> RenewFault
         ensures { result ≡ RenewFault.Journal (record { path = path; fault = fault }) }
     {
         RenewFault::Journal(Refused { path, fault })
     }
 
-    /// What the store is is not found in a file.
+    /// A file does not say what the store is.
     pub fn of_setup(path: String, fault: SetupFileFault) -> RenewFault
         ensures { IsOfFiles result }
     {
@@ -85,7 +85,7 @@ impl RenewFault {
         }
     }
 
-    /// The same of a log that is begun anew since the values of these keys changed.
+    /// The same fault, for a log that is renewed since the values of these keys changed.
     pub fn for_change(self, keys: ChangedKeys) -> RenewFault
         ensures { IsOfLists self → IsOfLists result }
     {
@@ -96,7 +96,7 @@ impl RenewFault {
         }
     }
 
-    /// The same of a log that is begun anew since these journals are lost.
+    /// The same fault, for a log that is renewed since these journals are lost.
     pub fn for_loss(self, lost: LostJournals) -> RenewFault
         ensures { IsOfLists self → IsOfLists result }
     {
@@ -107,7 +107,7 @@ impl RenewFault {
         }
     }
 
-    /// Whether the log itself can't be begun anew, so that nothing was written.
+    /// Whether the log itself can't be renewed, so that nothing was written.
     pub fn is_of_log(&self) -> bool
         ensures { IsTrue result → IsOfLists self.now }
     {
@@ -118,7 +118,7 @@ impl RenewFault {
         }
     }
 
-    /// Whether this is want of memory, also where the system tells it.
+    /// Whether memory ran out, also if the system says so.
     pub fn is_memory(&self) -> bool {
         match self {
             RenewFault::Memory | RenewFault::Renewal(RenewalFault::Memory) => true,
@@ -172,7 +172,7 @@ impl From<RenewalFault> for RenewFault {
     }
 }
 
-/// A journal that is refused, at this path.
+/// A journal at this path that was refused.
 #[derive(Debug, Drop)]
 pub struct Refused {
     path: String,

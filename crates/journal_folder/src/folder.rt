@@ -1,20 +1,20 @@
-//! A folder, and the one that it lies in.
+//! A folder, and the one that contains it.
 use std::fs::{DirBuilder, File, Files};
 use std::io::ErrorKind;
 use std::os::unix::fs::DirBuilderExt;
 use std::path::Path;
 use std::{fs, io};
 
-/// Nobody but its owner looks into the folder of the journals.
+/// Only its owner can look into the folder of the journals.
 const OWNERS: u32 = 0o700;
 
-/// The folder of a path is there, one that is made where it is not. The folder around it is synced,
-/// so that a crash leaves it there. Whether it was made; where it fails, none was.
+/// Makes the folder of a path if it does not exist. The folder around it is synced, so that a crash
+/// leaves it there. Returns whether it was made; if it fails, none was.
 pub fn make_folder<R: Files<File = File>>(rt: &R, path: &str) -> io::Result<bool> {
     match DirBuilder::new().mode(OWNERS).create(rt, path) {
         Ok(()) => {
             if let Err(error) = sync_around(rt, path) {
-                // nothing lies in it yet
+                // it is still empty
                 let _ = fs::remove_dir(rt, path);
                 return Err(error);
             }
@@ -28,7 +28,7 @@ pub fn make_folder<R: Files<File = File>>(rt: &R, path: &str) -> io::Result<bool
     }
 }
 
-/// Syncs the folder in which a path lies, so that a crash leaves the names in it.
+/// Syncs the folder around a path, so that a crash leaves the names in it.
 pub fn sync_around<R: Files<File = File>>(rt: &R, path: &str) -> io::Result<()> {
     let around = match Path::new(path).parent() {
         Some(folder) if !folder.as_str().is_empty() => folder.as_str(),

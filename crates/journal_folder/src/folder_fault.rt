@@ -7,7 +7,7 @@ use std::io;
 use std::io::ErrorKind;
 use thiserror::Error;
 
-/// Why a folder does not take the place of another, with the path that it is about.
+/// Why a folder does not replace another, with the path in question.
 #[derive(Debug, Drop, Error)]
 pub enum FolderFault {
     #[error("{0}: {1}")]
@@ -16,7 +16,7 @@ pub enum FolderFault {
     System(String, io::Error),
     #[error("{0}: too many old folders lie beside it: move them away")]
     NoFreeName(String),
-    /// A renewed folder lies at this path, and no old journals and not all renewed ones lie in the folders.
+    /// There is a renewed folder at this path, but neither old journals in the folders nor all renewed ones.
     #[error("{0}: it was renewed together with other folders: name those in the configuration")]
     Unfinished(String),
     #[error("out of memory")]
@@ -24,7 +24,7 @@ pub enum FolderFault {
 }
 
 impl FolderFault {
-    /// The system refuses what is asked of a path.
+    /// The system refuses something for a path.
     pub fn of_system(alloc: Global, path: &str, error: io::Error) -> FolderFault {
         match String::from_str(alloc, path) {
             Ok(path) => FolderFault::System(path, error),
@@ -32,7 +32,7 @@ impl FolderFault {
         }
     }
 
-    /// Whether this is want of memory, also where the system tells it.
+    /// Whether memory ran out, also if the system says so.
     pub fn is_memory(&self) -> bool {
         match self {
             FolderFault::Memory => true,

@@ -5,7 +5,7 @@ ghost use Rattle.journal_folder.specs.Folders.{folder_of, of_number};
 use raft_log::NodeId;
 use std::alloc::{AllocError, Global};
 
-/// The folder in which a node's journal lies, of these, node 1's first: its own, or the last where there are fewer.
+/// The one of these folders, node 1's first, with a node's journal: its own, or the last if there are fewer.
 pub fn folder_of(folders: &[String], node: NodeId) -> &str
     requires { 1 ≤ length folders.now }
     ensures { result.now ≡ folder_of (map string_bytes folders.now) node }
@@ -33,7 +33,7 @@ fn of_number<'a>(first: &'a String, others: &'a [String], number: u8) -> &'a str
     }
 }
 
-/// The same folders again.
+/// Copies of these folders.
 pub fn copies_of(alloc: Global, folders: &[String]) -> Result<Vec<String>, AllocError>
     ensures folders { IfOk result (λ copies.
         map string_bytes copies.items ≡ map string_bytes folders.now) }
@@ -44,7 +44,7 @@ pub fn copies_of(alloc: Global, folders: &[String]) -> Result<Vec<String>, Alloc
     Ok(copies)
 }
 
-/// These folders once more.
+/// Appends copies of these folders.
 #[tactic(auto, using(crate::proofs::Numbered::one_more))]
 fn push_copies(
     alloc: Global,

@@ -57,7 +57,8 @@ pub fn foretold<R: Files + AllocGlobal>(
     Foretold::of(alloc, coming, &store, &standing.saved)
 }
 
-/// What comes of a store in whose journals this stands, of which these are lost, as far as memory tells.
+/// What will be done with a store whose journals have these states, and of which these are lost, as far as memory
+/// allows.
 fn coming_of(
     alloc: Global,
     config: &Config,
@@ -94,7 +95,7 @@ fn coming_of(
     }
 }
 
-/// What comes of a store that goes on, unless its log is too long.
+/// What will be done with a store that goes on, unless its log is too long.
 fn coming_length(
     alloc: Global,
     config: &Config,
@@ -118,7 +119,7 @@ fn coming_length(
     }
 }
 
-/// What stands for the journals in the folders of a group of this size.
+/// The states of the journals in the folders of a group of this size.
 fn read_group<R: Files + AllocGlobal>(
     rt: &R,
     folders: &[String],
@@ -139,7 +140,7 @@ fn read_group<R: Files + AllocGlobal>(
     Ok(standing)
 }
 
-/// One more journal.
+/// Adds one more journal.
 #[tactic(auto, using(crate::proofs::Numbered::pushed))]
 fn add(journals: &mut Vec<NodeJournal>, journal: NodeJournal) -> Result<(), AllocError>
     ensures { OnOk result (map (λ first. first.node) journals.new.items
@@ -149,8 +150,8 @@ fn add(journals: &mut Vec<NodeJournal>, journal: NodeJournal) -> Result<(), Allo
     Ok(())
 }
 
-/// What is found of the journal of a node. Full blocks of entries that the first log of these has too are one value in
-/// memory with it.
+/// The state of the journal of a node. Full blocks of entries that the first log of these also has are shared with it
+/// in memory.
 fn read_journal<R: Files + AllocGlobal>(
     rt: &R,
     folder: &str,

@@ -14,15 +14,15 @@ use raft_log::NodeId;
 use std::fs::{File, Files};
 use store_setup::StoreSetup;
 
-/// A store, and what stands in its journals, which stay locked.
+/// A store, and the states of its journals, which stay locked.
 #[derive(Drop)]
 pub struct Held {
     pub store: StoreSetup,
     pub group: Group,
 }
 
-/// The store in the folders of a configuration, more than half of whose journals are whole. What it is is read once
-/// more behind the locks, since another program may have begun its log anew before.
+/// The store in the folders of a configuration, more than half of whose journals are whole. What it records about
+/// itself is read again after the locks, since another program may have renewed its log before.
 pub fn hold<R: Files<File = File> + AllocGlobal>(
     rt: &R,
     folders: &[String],
@@ -46,7 +46,7 @@ pub fn hold<R: Files<File = File> + AllocGlobal>(
     Ok(Held { store, group })
 }
 
-/// What the store in the folders of a configuration is taken to be.
+/// What the store in the folders of a configuration is assumed to be.
 fn store_in<R: Files + AllocGlobal>(
     rt: &R,
     folders: &[String],

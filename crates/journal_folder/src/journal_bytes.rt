@@ -1,4 +1,4 @@
-//! What is found of a journal by the bytes of its file.
+//! The state of a journal, from the bytes of its file.
 ghost use Rattle.std.specs.Prelude.{◌≡◌, ◌≢◌, Err, IfErr, IfOk, IsTrue, Ok};
 ghost use Rattle.journal_store.specs.Disks.{now};
 ghost use Rattle.journal_store.specs.Journals.{found};
@@ -19,10 +19,10 @@ use wire_bytes::{Number, Wire};
 /// The length of a journal in which nothing is saved: its header and a closed gate.
 pub const EMPTY_LEN: usize = 9;
 
-/// What is found of the journal whose file has these bytes. One that is no longer than an empty journal holds nothing,
-/// whatever its bytes are, since a first start may have been killed as it made it. One of another version is no loss:
-/// a later program wrote it. Full blocks of entries that another log has at the same places are one value in memory
-/// with it.
+/// The state of the journal whose file has these bytes. One that is no longer than an empty journal holds nothing,
+/// whatever its bytes are, since a first start may have been killed while it made it. One of another version is no
+/// loss: a later program wrote it. Full blocks of entries that another log has at the same places are shared with it in
+/// memory.
 pub fn journal_of(
     alloc: Global,
     bytes: Vec<u8>,
@@ -46,7 +46,7 @@ pub fn journal_of(
     }
 }
 
-/// Whether a journal that is refused so is lost.
+/// Whether a journal that is refused for this reason is lost.
 pub fn is_lost(fault: &OpenFault) -> bool
     ensures { IsTrue result → IsLoss fault.now }
 {
@@ -57,7 +57,7 @@ pub fn is_lost(fault: &OpenFault) -> bool
     }
 }
 
-/// What a journal stands for.
+/// The state that a journal stands for.
 fn saved_in<B: Wire>(alloc: Global, bytes: Vec<u8>) -> Result<Saved<B>, StoreFault>
     ensures found { IfOk result
         (λ saved. found (payloads B.taken) nothing_saved bytes.items ≡ Ok saved) }
@@ -74,7 +74,7 @@ fn saved_in<B: Wire>(alloc: Global, bytes: Vec<u8>) -> Result<Saved<B>, StoreFau
     }
 }
 
-/// A refusal of what a disk in memory holds, which fails no call but where memory is wanting.
+/// Why a disk in memory is refused, on which a call fails only if memory runs out.
 fn refusal(fault: StoreFault) -> StoreFault
     ensures { result ≢ StoreFault.Memory → (result ≡ fault) × (fault ≢ StoreFault.Device) }
 {
@@ -84,7 +84,7 @@ fn refusal(fault: StoreFault) -> StoreFault
     }
 }
 
-/// What stands in a new journal.
+/// The state of a new journal.
 fn nothing<B: Wire>(alloc: Global) -> Saved<B>
     ensures { result ≡ nothing_saved }
 {
@@ -96,7 +96,7 @@ fn nothing<B: Wire>(alloc: Global) -> Saved<B>
     }
 }
 
-/// The bytes of a disk's file, synced: what is read has to stand, whatever a crash leaves later.
+/// The bytes of a disk's file, synced: what is read must stay, whatever a crash leaves later.
 pub fn bytes_of<D: Disk>(alloc: Global, disk: &mut D) -> Result<Vec<u8>, DiskFault>
     ensures { IsTrue (D.honest disk.old)
         → IfOk result (λ bytes. bytes.items ≡ (now (D.states disk.old)).bytes) }

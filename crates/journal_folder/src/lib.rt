@@ -1,11 +1,10 @@
-//! The folders of the journals of a bouncer's nodes, one for all or one for each: what they tell of earlier runs, what the
-//! store in them is, and how folders whose log is begun anew take their place. Stands under bouncer_run and bouncer_app.
-//! Renewed folders are decided by their names alone, once each of them is whole, so that a program that is killed at any
-//! moment leaves all of the old folders whole or all of the new ones.
-//! Of the journals the log counts that a leader among all nodes would have; each new journal holds the renewed log,
-//! a term and a run that never were, and a vote for node 1. A log that came about under another setup or another number
-//! of nodes than the configuration's is begun anew before any node starts, and so is that of a store some of whose
-//! journals are lost, from the others.
+//! The folders of the journals of a bouncer's nodes, one for all or one for each: what they say about earlier runs,
+//! what the store in them is, and how folders with a renewed log replace them. Used by bouncer_run and bouncer_app.
+//! Whether renewed folders count is decided only by their names, once each of them is whole, so that a program that is
+//! killed at any moment leaves all of the old folders whole or all of the new ones. The log that counts is the one that
+//! a leader elected by all nodes would have; each new journal holds the renewed log, a term and a run that never were,
+//! and a vote for node 1. A log with another setup or another number of nodes than the configuration's is renewed
+//! before any node starts, and so is that of a store some of whose journals are lost, from the others.
 #![tactic(auto)]
 
 mod absent;

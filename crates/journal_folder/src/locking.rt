@@ -13,7 +13,7 @@ use std::alloc::AllocError;
 use std::fs::{File, Files};
 use std::io::ErrorKind;
 
-/// The journal of a node, locked until this is dropped, where it is there. No other program opens it meanwhile.
+/// The journal of a node, locked until this is dropped, if it exists. No other program opens it until then.
 #[derive(Drop)]
 pub struct NodeLock {
     pub node: NodeId,
@@ -27,7 +27,7 @@ pub struct FolderLocks {
     pub renewed: Vec<NodeLock>,
 }
 
-/// Those of each of these folders, and of each node that a group may have.
+/// Locks those of each of these folders, for each node that a group may have.
 pub fn lock_folders<R: Files<File = File> + AllocGlobal>(
     rt: &R,
     all: &[Paths],
@@ -46,7 +46,7 @@ pub fn lock_folders<R: Files<File = File> + AllocGlobal>(
     Ok(locks)
 }
 
-/// The journals of these folders, of each node that a group may have. So no bouncer runs over them meanwhile.
+/// Locks the journals of these folders, for each node that a group may have, so that no bouncer runs with them.
 pub fn lock_all<R: Files<File = File> + AllocGlobal>(
     rt: &R,
     folders: &[String],
@@ -63,7 +63,7 @@ pub fn lock_all<R: Files<File = File> + AllocGlobal>(
     Ok(locks)
 }
 
-/// The journals of a folder, of each node that a group may have. So no bouncer runs over them meanwhile.
+/// Locks the journals of a folder, for each node that a group may have, so that no bouncer runs with them.
 pub fn lock_journals<R: Files<File = File> + AllocGlobal>(
     rt: &R,
     folder: &str,
@@ -80,7 +80,7 @@ pub fn lock_journals<R: Files<File = File> + AllocGlobal>(
     Ok(locks)
 }
 
-/// One more lock.
+/// Adds one more lock.
 #[tactic(auto, using(crate::proofs::Numbered::pushed))]
 fn add(locks: &mut Vec<NodeLock>, lock: NodeLock) -> Result<(), AllocError>
     ensures { OnOk result (map (λ lock. lock.node) locks.new.items
@@ -90,7 +90,7 @@ fn add(locks: &mut Vec<NodeLock>, lock: NodeLock) -> Result<(), AllocError>
     Ok(())
 }
 
-/// The journal of a node in a folder.
+/// Locks the journal of a node in a folder.
 pub fn lock_journal<R: Files<File = File> + AllocGlobal>(
     rt: &R,
     folder: &str,
@@ -108,7 +108,7 @@ pub fn lock_journal<R: Files<File = File> + AllocGlobal>(
     Ok(NodeLock { node, disk })
 }
 
-/// Whether none of these journals is there.
+/// Whether none of these journals exists.
 pub fn are_missing(locks: &[NodeLock]) -> bool {
     locks.iter().all(|lock| lock.disk.is_none())
 }

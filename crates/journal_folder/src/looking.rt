@@ -24,7 +24,7 @@ pub enum Look {
     Partly,
 }
 
-/// A look at the journals in the folders of a group of this size.
+/// Looks at the journals in the folders of a group of this size.
 pub fn look_at<R: Files + AllocGlobal>(
     rt: &R,
     folders: &[String],
@@ -43,7 +43,7 @@ pub fn look_at<R: Files + AllocGlobal>(
     Ok(seen(full, size.value()))
 }
 
-/// What is seen where so many files of so many are longer than an empty journal.
+/// What is seen if this many of this many files are longer than an empty journal.
 fn seen(full: u8, size: u8) -> Look
     ensures { result ≡ seen full size }
 {
@@ -56,7 +56,7 @@ fn seen(full: u8, size: u8) -> Look
     }
 }
 
-/// Whether a node's journal lies in a folder, and is longer than an empty one.
+/// Whether a folder has a node's journal, which is longer than an empty one.
 pub fn is_longer<R: Files + AllocGlobal>(
     rt: &R,
     folder: &str,

@@ -13,11 +13,11 @@ pub enum Loss {
     Missing,
     /// Nothing is saved in it, while entries are saved in another one.
     Empty,
-    /// A log of the others tells of a later run of its node.
+    /// A log of the others mentions a later run of its node.
     Older,
     /// Its file is no journal.
     NotAStore,
-    /// The record at this place of its file, from 0, is none.
+    /// There is no valid record at this place of its file, from 0.
     Damaged(u64),
 }
 
@@ -40,14 +40,14 @@ pub struct LostJournal {
     pub loss: Loss,
 }
 
-/// The journals of a group that are lost, as they are told of.
+/// The journals of a group that are lost, as they are reported.
 #[derive(Debug, Drop)]
 pub struct LostJournals {
     pub journals: Vec<LostJournal>,
 }
 
 impl LostJournals {
-    /// Whether none is.
+    /// Whether there are none.
     pub fn is_none(&self) -> bool
         ensures none { IsTrue result → self.now.journals.items ≡ [] }
         ensures some { result ≡ false → self.now.journals.items ≢ [] }
@@ -58,7 +58,7 @@ impl LostJournals {
         }
     }
 
-    /// The same again.
+    /// A copy.
     pub fn again(&self, alloc: Global) -> Result<LostJournals, AllocError>
         ensures { IfOk result (λ lost. lost.journals.items ≡ self.now.journals.items) }
     {
@@ -67,7 +67,7 @@ impl LostJournals {
     }
 }
 
-/// As `node 2's journal is empty, node 3's journal is missing`.
+/// Written as `node 2's journal is empty, node 3's journal is missing`.
 impl fmt::Display for LostJournals {
     fn fmt<W: fmt::Write>(&self, f: &mut fmt::Formatter<W>) -> fmt::Result {
         for index in 0..self.journals.len() {
@@ -79,7 +79,7 @@ impl fmt::Display for LostJournals {
     }
 }
 
-/// Too few journals of a store are whole for any start.
+/// Too few journals of a store are whole for it to start.
 #[derive(Debug, Drop)]
 pub struct TooFew {
     folders: Vec<String>,
@@ -97,7 +97,7 @@ impl TooFew {
         Ok(TooFew { folders, lost })
     }
 
-    /// The folder of a node, as it is told.
+    /// The folder of a node, as it is reported.
     fn folder_of(&self, node: NodeId) -> &str {
         match self.folders.as_slice() {
             [] => "",
@@ -106,7 +106,7 @@ impl TooFew {
     }
 }
 
-/// Each file that is wrong, and what to do.
+/// Lists each file that is wrong, and what to do.
 impl fmt::Display for TooFew {
     fn fmt<W: fmt::Write>(&self, f: &mut fmt::Formatter<W>) -> fmt::Result {
         for index in 0..self.lost.journals.len() {
@@ -120,7 +120,7 @@ impl fmt::Display for TooFew {
     }
 }
 
-/// What stands before the item at this index of a list.
+/// What is put before the item at this index of a list.
 fn joint(index: usize) -> &'static str {
     if index == 0 { "" } else { ", " }
 }

@@ -21,8 +21,8 @@ use std::fs::{File, Files};
 use std::io::ErrorKind;
 use store_setup::StoreSetup;
 
-/// New journals in folders of their own, synced, each locked until it is dropped: of each node of a group, as it
-/// was planned. What lay in the folders is removed first. The store says what it is before a journal is made.
+/// Makes new journals in folders of their own, synced, each locked until it is dropped: for each node of a group, as
+/// planned. What was in the folders is removed first. The store records what it is before a journal is made.
 pub fn make_journals<R: Files<File = File> + AllocGlobal>(
     rt: &R,
     folders: &[String],
@@ -54,7 +54,7 @@ pub fn make_journals<R: Files<File = File> + AllocGlobal>(
     }
 }
 
-/// These folders are there anew, and in each of them the store says what it is.
+/// Makes these folders again, and in each of them the store records what it is.
 fn make_folders<R: Files<File = File> + AllocGlobal>(
     rt: &R,
     folders: &[String],
@@ -80,13 +80,13 @@ fn make_folders<R: Files<File = File> + AllocGlobal>(
 /// New journals of some nodes, each locked until it is dropped.
 #[derive(Drop)]
 pub struct Opened {
-    /// Whose they are, in their order.
+    /// Their nodes, in their order.
     pub nodes: Vec<NodeId>,
     pub journals: Vec<FileJournal<TowerBody>>,
 }
 
 impl Opened {
-    /// Those of a group of this size, in folders that say what the store is.
+    /// Those of a group of this size, in folders that record what the store is.
     fn of_nodes<R: Files<File = File> + AllocGlobal>(
         rt: &R,
         folders: &[String],
@@ -110,7 +110,7 @@ impl Opened {
         Ok(opened)
     }
 
-    /// The journal of one more node.
+    /// Makes the journal of one more node.
     fn add<R: Files<File = File> + AllocGlobal>(
         &mut self,
         rt: &R,
@@ -134,7 +134,7 @@ impl Opened {
     }
 }
 
-/// A folder is not there, nor what lay in it.
+/// Removes a folder and what is in it.
 pub fn remove<R: Files + AllocGlobal>(rt: &R, folder: &str) -> Result<(), RenewFault>
     ensures { IfErr result IsOfFiles }
 {
@@ -145,7 +145,7 @@ pub fn remove<R: Files + AllocGlobal>(rt: &R, folder: &str) -> Result<(), RenewF
     }
 }
 
-/// Why a journal is not written, as the system says it where it says it.
+/// Why a journal is not written, with the system's error if there is one.
 fn unwritten(journal: &FileJournal<TowerBody>, path: String, fault: StoreFault) -> RenewFault
     ensures { IsOfFiles result }
 {

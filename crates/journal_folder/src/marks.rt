@@ -1,4 +1,4 @@
-//! How far the renewal of some folders came.
+//! How far the renewal of some folders has come.
 ghost use Rattle.std.specs.Prelude.{◌≡◌, IfOk, length};
 ghost use Rattle.journal_folder.specs.Marks.{has_marked, has_old, has_placed, marks_of};
 
@@ -15,13 +15,13 @@ use std::io::ErrorKind;
 pub enum Stage {
     /// It is as it was.
     Old,
-    /// A renewed folder that is whole lies beside it.
+    /// There is a renewed folder beside it, which is whole.
     Marked,
     /// A renewed folder has taken its place.
     Placed,
 }
 
-/// How far a renewal came.
+/// How far a renewal has come.
 #[derive(Clone, Copy, Debug, PartialEq, Eq)]
 pub enum Marks {
     /// There is none, or it is done.
@@ -32,8 +32,8 @@ pub enum Marks {
     Decided,
 }
 
-/// How far the renewal of these folders came. A folder is taken to be in its place where the file of its setup is that
-/// of the first renewed folder, byte by byte: that tells how often the log was begun anew.
+/// How far the renewal of these folders has come. A folder counts as replaced if the file of its setup is that of the
+/// first renewed folder, byte by byte: that file says how often the log was renewed.
 pub fn marks_at<R: Files + AllocGlobal>(rt: &R, all: &[Paths]) -> Result<Marks, FolderFault> {
     let mut stages = Vec::new(rt.alloc());
     let setup = renewed_setup(rt, all)?;
@@ -44,7 +44,7 @@ pub fn marks_at<R: Files + AllocGlobal>(rt: &R, all: &[Paths]) -> Result<Marks, 
     Ok(marks_of(&stages))
 }
 
-/// How far a renewal came whose folders are so far.
+/// How far a renewal has come, from the stages of its folders.
 pub fn marks_of(stages: &[Stage]) -> Marks
     ensures { result ≡ marks_of stages.now }
 {
@@ -84,7 +84,7 @@ fn has_old(stages: &[Stage]) -> bool
     }
 }
 
-/// How far a folder is renewed, where the first renewed folder has this file of its setup.
+/// How far a folder is renewed, if the first renewed folder has this file of its setup.
 fn stage_of<R: Files + AllocGlobal>(
     rt: &R,
     paths: &Paths,
@@ -99,7 +99,7 @@ fn stage_of<R: Files + AllocGlobal>(
     }
 }
 
-/// The file of the setup in the first renewed folder. It is empty where there is none.
+/// The file of the setup in the first renewed folder. It is empty if there is none.
 fn renewed_setup<R: Files + AllocGlobal>(rt: &R, all: &[Paths]) -> Result<Vec<u8>, FolderFault> {
     for paths in all {
         if is_marked(rt, paths)? {
@@ -109,7 +109,7 @@ fn renewed_setup<R: Files + AllocGlobal>(rt: &R, all: &[Paths]) -> Result<Vec<u8
     Ok(Vec::new(rt.alloc()))
 }
 
-/// The file of the setup in a folder, empty where there is none.
+/// The file of the setup in a folder, empty if there is none.
 fn setup_bytes<R: Files + AllocGlobal>(rt: &R, folder: &str) -> Result<Vec<u8>, FolderFault> {
     let alloc = rt.alloc();
     let path = setup_path(alloc, folder)?;
@@ -120,7 +120,7 @@ fn setup_bytes<R: Files + AllocGlobal>(rt: &R, folder: &str) -> Result<Vec<u8>, 
     }
 }
 
-/// Whether a renewed folder lies beside a folder.
+/// Whether there is a renewed folder beside a folder.
 pub fn is_marked<R: Files + AllocGlobal>(rt: &R, paths: &Paths) -> Result<bool, FolderFault> {
     let renewed = paths.renewed.as_str();
     match fs::exists(rt, renewed) {

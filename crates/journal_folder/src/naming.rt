@@ -1,4 +1,4 @@
-//! The names of the clients that a log tells of.
+//! The names of the clients in a log.
 ghost use Rattle.std.specs.Prelude.{◌≡◌, [], false, map, IfNone, IfOk, IfSome, IsTrue, OnOk, Contains};
 ghost use Rattle.std.specs.List.{list_all};
 ghost use Rattle.machine_laws.specs.Runs.{History, run};
@@ -18,8 +18,7 @@ use stable_store::Saved;
 use std::alloc::{AllocError, Global};
 use wire_bytes::{Copied, Number, copied_all};
 
-/// The names that clients gave as they attached, in the order in which they first came, under the setup that the log
-/// came about under.
+/// The names that clients gave when they attached, in the order in which they first came, under the setup of the log.
 pub fn names_in(alloc: Global, setup: &Setup, log: &Log<TowerBody>) -> Result<Vec<Name>, AllocError>
     ensures { IfOk result (λ names. names.items ≡ names_in setup.now log.now) }
 {
@@ -28,7 +27,7 @@ pub fn names_in(alloc: Global, setup: &Setup, log: &Log<TowerBody>) -> Result<Ve
     Ok(names)
 }
 
-/// The names behind a log, which comes to layers to which nothing came.
+/// The names after a log, which comes to layers with an empty history.
 fn names_behind(
     alloc: Global,
     layers: &mut Layers,
@@ -53,8 +52,8 @@ fn copied_names(alloc: Global, layers: &Layers) -> Result<Vec<Name>, AllocError>
     copied_all(alloc, buffers.ids())
 }
 
-/// Applies the bodies of a log, the first at place 1, to a machine to which nothing came. After an error the machine
-/// is to be thrown away.
+/// Applies the bodies of a log, the first at place 1, to a machine with an empty history. After an error the machine is
+/// to be thrown away.
 #[tactic(auto, using(crate::proofs::Comes::run_more))]
 fn apply_all<M: Machine>(machine: &mut M, log: &Log<M::Command>) -> Result<(), ApplyFault>
     ensures { (s : M.Setup) → M.stands machine.old s []

@@ -1,4 +1,4 @@
-//! Where the old folders of a renewal lie.
+//! Where the old folders of a renewal are.
 ghost use Rattle.std.specs.Prelude.{◌≡◌, is_none};
 ghost use Rattle.std.specs.List.{list_all};
 
@@ -8,7 +8,7 @@ use std::fmt;
 #[derive(Debug, Drop)]
 pub struct OldFolder {
     pub folder: String,
-    /// Where it lies now. None where it was empty or not there, or was moved before.
+    /// Where it is now. None if it was empty or did not exist, or was moved before.
     pub old: Option<String>,
 }
 

@@ -1,4 +1,4 @@
-//! Journals that are older copies, which their group tells.
+//! Journals that are older copies, as their group shows.
 ghost use Rattle.std.specs.Prelude.{◌≡◌, ◌≤◌, ◌+◌, length, map, option_map};
 ghost use Rattle.journal_folder.specs.Runs.{first_of_group, first_older, run_told, those_there};
 ghost use Rattle.wire_bytes.specs.Limits.{node_limit};
@@ -9,8 +9,8 @@ use file_disk::FileJournal;
 use raft_log::NodeId;
 use wire_bytes::Number;
 
-/// The first node whose journal, of these of a group, is older than their logs tell, if one is. They are in the order
-/// of their nodes, node 1's first; those that are not open are not there.
+/// The first node whose journal, among these of a group, is older than their logs show, if there is one. They are in
+/// the order of their nodes, node 1's first; those that are not open are missing here.
 pub fn first_older(journals: &[Option<FileJournal<TowerBody>>]) -> Option<NodeId>
     requires { length journals.now ≤ node_limit }
     ensures { result ≡ first_of_group (map (option_map (λ j. j.saved)) journals.now) }
@@ -18,7 +18,7 @@ pub fn first_older(journals: &[Option<FileJournal<TowerBody>>]) -> Option<NodeId
     first_older_of(1, journals, journals)
 }
 
-/// The same of those of a group, the first of which is of this node.
+/// The same for those of a group, the first of which is this node's.
 fn first_older_of(
     node: u8,
     journals: &[Option<FileJournal<TowerBody>>],
@@ -43,7 +43,7 @@ fn first_older_of(
     }
 }
 
-/// The last run of a node that the logs of these journals tell to have begun.
+/// The last run of a node that has begun according to the logs of these journals.
 pub fn run_told(node: NodeId, group: &[Option<FileJournal<TowerBody>>]) -> Number
     ensures { result ≡ run_told node (those_there (map (option_map (λ j. j.saved)) group.now)) }
 {

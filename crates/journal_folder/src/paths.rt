@@ -1,4 +1,4 @@
-//! Where a folder lies that is to take the place of another.
+//! The paths of folders that are to replace others.
 ghost use Rattle.std.specs.Prelude.{◌≡◌, ◌+◌, ◌++◌, IfErr, IfOk, OnOk, length, map, option_map, string_bytes};
 ghost use Rattle.std.specs.List.{All};
 ghost use Rattle.journal_folder.specs.Beside.{ArePaths, IsNamelessIn, IsPathsOfItself, beside};
@@ -7,20 +7,20 @@ ghost use Rattle.journal_folder.specs.declared.paths.NoPaths.TheVariants.{Memory
 use std::alloc::{AllocError, Global};
 use std::path::Path;
 
-/// The folder of the journals, and what lies beside it while it is renewed.
+/// The folder of the journals, and what is beside it while it is renewed.
 #[derive(Drop)]
 pub struct Paths {
     pub folder: String,
-    /// New journals, not all of which may be whole. Nobody uses them.
+    /// New journals, of which some may not be whole. Nobody uses them.
     pub renewing: String,
     /// New journals, all of them whole: they are to be used in place of those in the folder.
     pub renewed: String,
 }
 
-/// Why nothing can lie beside some folders.
+/// Why nothing can be beside some folders.
 #[derive(Debug, Drop)]
 pub enum NoPaths {
-    /// This one of them has no name of its own, as `.` and `/`.
+    /// This one of them has no name of its own, such as `.` and `/`.
     Nameless(String),
     Memory,
 }
@@ -34,8 +34,7 @@ impl From<AllocError> for NoPaths {
 }
 
 impl Paths {
-    /// Those of a folder. None where it has no name of its own, as `.` and `/`: then no other one can
-    /// take its place.
+    /// Those of a folder. None if it has no name of its own, such as `.` and `/`: then no other one can replace it.
     pub fn of(alloc: Global, folder: &str) -> Result<Option<Paths>, AllocError>
         ensures { IfOk result (λ paths. ArePaths folder.now paths) }
     {
@@ -66,7 +65,7 @@ impl Paths {
     }
 }
 
-/// Those of each of these folders.
+/// Appends those of each of these folders.
 #[tactic(auto, using(crate::proofs::Numbered::one_more))]
 fn push_paths(alloc: Global, all: &mut Vec<Paths>, folders: &[String]) -> Result<(), NoPaths>
     requires { All IsPathsOfItself all.old.items }
@@ -90,7 +89,7 @@ fn push_paths(alloc: Global, all: &mut Vec<Paths>, folders: &[String]) -> Result
     }
 }
 
-/// The folders of new journals of these.
+/// The folders of the new journals.
 pub fn renewing_of(alloc: Global, all: &[Paths]) -> Result<Vec<String>, AllocError>
     ensures folders { IfOk result (λ renewing.
         map string_bytes renewing.items ≡ map (λ paths. string_bytes paths.renewing) all.now) }
@@ -101,7 +100,7 @@ pub fn renewing_of(alloc: Global, all: &[Paths]) -> Result<Vec<String>, AllocErr
     Ok(renewing)
 }
 
-/// The folders of new journals of these once more.
+/// Appends copies of the folders of the new journals.
 #[tactic(auto, using(crate::proofs::Numbered::one_more))]
 fn push_renewing(alloc: Global, renewing: &mut Vec<String>, all: &[Paths]) -> Result<(), AllocError>
     ensures folders { OnOk result (map string_bytes renewing.new.items
@@ -119,7 +118,7 @@ fn push_renewing(alloc: Global, renewing: &mut Vec<String>, all: &[Paths]) -> Re
     }
 }
 
-/// In the same folder, the name of this one with an ending. None where it has no name of its own.
+/// In the same folder, the name of this one with an ending. None if it has no name of its own.
 pub fn beside(alloc: Global, folder: &str, ending: &str) -> Result<Option<String>, AllocError>
     ensures { IfOk result (λ path. option_map string_bytes path ≡ beside folder.now ending.now) }
 {

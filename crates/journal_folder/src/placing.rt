@@ -1,4 +1,4 @@
-//! Renewed folders take the place of the folders of the journals.
+//! Renewed folders replace the folders of the journals.
 ghost use Rattle.std.specs.Prelude.{◌≡◌, ◌++◌, IfOk, IfSome, OnOk, length, map, option_map, string_bytes};
 ghost use Rattle.std.specs.List.{All};
 ghost use Rattle.journal_folder.specs.Beside.{AreOldFolders, IsOldFolder, IsOldName, beside, old_ending};
@@ -15,13 +15,13 @@ use std::fs;
 use std::fs::{File, Files};
 use std::io::ErrorKind;
 
-/// How many old folders may lie beside the folder of the journals: more than anybody keeps.
+/// How many old folders may be beside the folder of the journals: more than anybody keeps.
 const MOST_OLD: u32 = 1000;
 
-/// A renewal that was decided, and whose program was ended before each renewed folder was in its place, is
-/// finished: what runs next uses those folders. One that was not decided is as if it had never been. What became of
-/// the old folders, where it was finished. An error where a program has a journal of any folder open, also one that
-/// finishes the renewal just now.
+/// Finishes a renewal that was decided, but whose program was ended before each renewed folder was in its place; the
+/// next run uses these folders. A renewal that was not decided has no effect. Returns what became of the old folders,
+/// if it was finished. An error if a program has a journal of any folder open, also one that finishes the renewal at
+/// this moment.
 pub fn finish_renewal<R: Files<File = File> + AllocGlobal>(
     rt: &R,
     folders: &[String],
@@ -38,7 +38,7 @@ pub fn finish_renewal<R: Files<File = File> + AllocGlobal>(
         return Ok(None);
     }
     let locks = lock_folders(rt, &all)?;
-    // another program may have finished it before these locks were there
+    // another program may have finished it before these locks were taken
     match marks_at(rt, &all)? {
         Marks::Absent => Ok(None),
         Marks::Open => {
@@ -52,13 +52,13 @@ pub fn finish_renewal<R: Files<File = File> + AllocGlobal>(
     }
 }
 
-/// Whether journals lie in each of these folders, so that none was moved away.
+/// Whether each of these folders has journals, so that none was moved away.
 fn have_journals(locks: &[FolderLocks]) -> bool {
     locks.iter().all(|folder| !are_missing(&folder.old))
 }
 
-/// The folders whose journals the next run uses: where a renewal was decided and is not finished, the renewed ones
-/// that are not in their place.
+/// The folders whose journals the next run uses: if a renewal was decided and is not finished, the renewed ones that
+/// are not in their place.
 pub fn folders_in_use<R: Files + AllocGlobal>(
     rt: &R,
     folders: &[String],
@@ -87,8 +87,8 @@ pub fn folders_in_use<R: Files + AllocGlobal>(
     Ok(used)
 }
 
-/// From here on the new journals are to be used in place of those in the folders: all of them are whole and synced.
-/// Where it fails they are used by nobody.
+/// From here on the new journals are to be used in place of those in the folders: all of them are whole and synced. If
+/// it fails nobody uses them.
 pub fn decide<R: Files<File = File> + AllocGlobal>(
     rt: &R,
     all: &[Paths],
@@ -103,7 +103,7 @@ pub fn decide<R: Files<File = File> + AllocGlobal>(
     Ok(())
 }
 
-/// The new journals of a folder are marked as whole.
+/// Marks the new journals of a folder as whole.
 fn mark<R: Files<File = File> + AllocGlobal>(rt: &R, paths: &Paths) -> Result<(), FolderFault> {
     let (renewing, renewed) = (paths.renewing.as_str(), paths.renewed.as_str());
     if let Err(error) = fs::rename(rt, renewing, renewed) {
@@ -112,7 +112,7 @@ fn mark<R: Files<File = File> + AllocGlobal>(rt: &R, paths: &Paths) -> Result<()
     sync(rt, renewed)
 }
 
-/// The renewed folders are used by nobody, as far as the system does as it is told.
+/// Takes the marks of renewed folders back, as far as the system allows, so that nobody uses them.
 fn undo<R: Files<File = File>>(rt: &R, all: &[Paths]) {
     for paths in all {
         let (renewing, renewed) = (paths.renewing.as_str(), paths.renewed.as_str());
@@ -122,8 +122,8 @@ fn undo<R: Files<File = File>>(rt: &R, all: &[Paths]) {
     }
 }
 
-/// The renewed folders, not all of which are there, are used by nobody from here on. Refused where no journals lie in
-/// any of the folders, which are locked so: then they were renewed with others.
+/// Takes back renewed folders of which some are missing, so that nobody uses them from here on. Refused if none of the
+/// folders, which are locked, has journals: then they were renewed together with others.
 fn take_back<R: Files<File = File> + AllocGlobal>(
     rt: &R,
     all: &[Paths],
@@ -136,7 +136,7 @@ fn take_back<R: Files<File = File> + AllocGlobal>(
             if is_empty {
                 return Err(FolderFault::Unfinished(String::from_str(rt.alloc(), renewed)?));
             }
-            // nobody uses what lies there
+            // nobody uses what is there
             let _ = fs::remove_dir_all(rt, renewing);
             if let Err(error) = fs::rename(rt, renewed, renewing) {
                 return Err(FolderFault::of_system(rt.alloc(), renewed, error));
@@ -147,7 +147,7 @@ fn take_back<R: Files<File = File> + AllocGlobal>(
     Ok(())
 }
 
-/// A crash leaves the marks of a renewal that was decided.
+/// Makes sure that a crash leaves the marks of a renewal that was decided.
 fn sync_marks<R: Files<File = File> + AllocGlobal>(
     rt: &R,
     all: &[Paths],
@@ -158,10 +158,10 @@ fn sync_marks<R: Files<File = File> + AllocGlobal>(
     Ok(())
 }
 
-/// The renewed folders take the place of those of the journals, which are locked. Where anything is in one of those,
-/// it is kept under another name, which is answered. Where the first can't be moved, and there is a way back since none
-/// was moved before, the renewed folders are ones that nobody uses, and nothing else changed. Where a later one can't,
-/// the next start goes on.
+/// Puts the renewed folders in the place of those of the journals, which are locked. If one of those is not empty, it
+/// is kept under another name, which is returned. If the first can't be moved, and there is a way back since none was
+/// moved before, the renewed folders become ones that nobody uses, and nothing else is changed. If a later one can't be
+/// moved, the next start goes on.
 pub fn put_in_place<R: Files<File = File> + AllocGlobal>(
     rt: &R,
     all: &[Paths],
@@ -176,8 +176,8 @@ pub fn put_in_place<R: Files<File = File> + AllocGlobal>(
     Ok(OldFolders { folders })
 }
 
-/// Each of these renewed folders takes its place. The marks of the second ones are taken back where the first can't
-/// take its own.
+/// Puts each of these renewed folders in its place. The marks of the second ones are taken back if the first can't take
+/// its place.
 #[tactic(auto, using(crate::proofs::Numbered::one_more))]
 fn place_all<R: Files<File = File> + AllocGlobal>(
     rt: &R,
@@ -204,7 +204,7 @@ fn place_all<R: Files<File = File> + AllocGlobal>(
     }
 }
 
-/// A renewed folder takes its place, unless it is there. The marks of these are taken back where it can't.
+/// Puts a renewed folder in its place, unless it is already there. The marks of these are taken back if it can't be.
 fn place<R: Files<File = File> + AllocGlobal>(
     rt: &R,
     paths: &Paths,
@@ -217,7 +217,7 @@ fn place<R: Files<File = File> + AllocGlobal>(
         return Ok(None);
     }
     let (folder, renewed) = (paths.folder.as_str(), paths.renewed.as_str());
-    // where the folder is empty, or not there, this is all
+    // if the folder is empty, or does not exist, this is all
     if fs::rename(rt, renewed, folder).is_ok() {
         sync(rt, folder)?;
         return Ok(None);
@@ -237,7 +237,7 @@ fn place<R: Files<File = File> + AllocGlobal>(
     Ok(Some(old))
 }
 
-/// A folder has another name, which is answered.
+/// Gives a folder another name, which is returned.
 fn move_away<R: Files + AllocGlobal>(rt: &R, folder: &str) -> Result<String, FolderFault>
     ensures { IfOk result (λ name. IsOldName folder.now (string_bytes name)) }
 {
@@ -248,7 +248,7 @@ fn move_away<R: Files + AllocGlobal>(rt: &R, folder: &str) -> Result<String, Fol
     }
 }
 
-/// Syncs the folder in which a path lies.
+/// Syncs the folder around a path.
 fn sync<R: Files<File = File> + AllocGlobal>(rt: &R, path: &str) -> Result<(), FolderFault> {
     match sync_around(rt, path) {
         Ok(()) => Ok(()),
@@ -256,7 +256,7 @@ fn sync<R: Files<File = File> + AllocGlobal>(rt: &R, path: &str) -> Result<(), F
     }
 }
 
-/// The first name for an old folder that nothing has.
+/// The first name for an old folder that is not in use.
 fn free_name<R: Files + AllocGlobal>(rt: &R, folder: &str) -> Result<String, FolderFault>
     ensures { IfOk result (λ name. IsOldName folder.now (string_bytes name)) }
 {

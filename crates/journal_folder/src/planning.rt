@@ -1,4 +1,4 @@
-//! What a group is begun anew with.
+//! The plan for renewing a group.
 ghost use Rattle.std.specs.Prelude.{◌≡◌, ◌⊎◌, ◌≤◌, ◌+◌, ◌++◌, IfErr, IfOk, OnOk, length, take};
 ghost use Rattle.journal_folder.specs.Faults.{IsOfLists};
 ghost use Rattle.journal_folder.specs.Planning.{AreBehind, IsAnySpent, IsPlan, IsSpent, are_next};
@@ -16,20 +16,20 @@ use stable_store::Saved;
 use std::alloc::Global;
 use wire_bytes::{LAST_NUMBER, Number};
 
-/// What is to stand in the new journals of a group, and what stood in the old ones.
+/// What the new journals of a group are to hold, and how much the old ones held.
 #[derive(Drop)]
 pub struct Plan {
-    /// How many entries the log has that is begun anew.
+    /// How many entries the log has that is renewed.
     pub before: Number,
     pub renewal: Renewal,
-    /// A run of each node of the new group behind all of its runs, node 1's first.
+    /// For each node of the new group a run after all of its runs, node 1's first.
     pub boots: Vec<Number>,
-    /// The term behind all terms.
+    /// The term after all terms.
     pub term: Number,
 }
 
 impl Plan {
-    /// This plan, where its log has no more than so many entries.
+    /// This plan, if its log has no more than this many entries.
     pub fn within(self, entries: u64) -> Result<Plan, RenewFault>
         ensures same { IfOk result (λ plan. plan ≡ self) }
         ensures short { IfOk result (λ plan. length plan.renewal.log ≤ entries) }
@@ -43,9 +43,9 @@ impl Plan {
     }
 }
 
-/// What a group is begun anew with, from one setup to another, as a group of so many nodes: the log that counts among
-/// all of its stores, node 1's first, begun anew, in the term behind the greatest one, and behind a run of each node
-/// that never was, also in an earlier group.
+/// The plan for renewing a group, from one setup to another, as a group of this many nodes: the log that counts among
+/// all of its stores, node 1's first, renewed, in the term after the greatest one, and with a run of each node that
+/// never was, also not in an earlier group.
 #[tactic(auto, using(crate::proofs::Behind::of_a_plan))]
 pub fn planned(
     alloc: Global,
@@ -84,7 +84,7 @@ pub fn planned(
     })
 }
 
-/// The run of each of so many nodes behind its greatest one, which are these.
+/// The runs after these, which are the greatest ones of this many nodes.
 fn next_boots(
     alloc: Global,
     greatest: &[Number],
@@ -102,7 +102,7 @@ fn next_boots(
     Ok(boots)
 }
 
-/// The number behind each of these.
+/// The number after each of these.
 fn push_next(next: &mut Vec<Number>, numbers: &[Number]) -> Result<(), RenewFault>
     ensures next { OnOk result (next.new.items ≡ next.old.items ++ are_next numbers.now) }
     ensures count { OnOk result
@@ -121,7 +121,7 @@ fn push_next(next: &mut Vec<Number>, numbers: &[Number]) -> Result<(), RenewFaul
     }
 }
 
-/// The number behind this one, where there is one.
+/// The number after this one, if there is one.
 pub fn behind(number: Number) -> Result<Number, RenewFault>
     ensures next { IfOk result (λ n. n ≡ number + 1) }
     ensures spent { IfErr result (λ e. (e ≡ RenewFault.Spent) × (number ≡ number_limit)) }

@@ -4,8 +4,8 @@ use crate::old_folders::OldFolders;
 use std::fmt;
 use wire_bytes::Number;
 
-/// What a renewal did: how many entries the log had and has, how much is kept in it, which journals were lost, and where
-/// the old ones lie now.
+/// What a renewal did: how many entries the log had and has, how much is kept in it, which journals were lost, and
+/// where the old ones are now.
 #[derive(Drop)]
 pub struct Renewed {
     pub before: Number,

@@ -1,4 +1,4 @@
-//! `bouncer renew`, and what a start does where a log came about under another setup.
+//! `bouncer renew`, and what a start does if a log has another setup.
 ghost use Rattle.std.specs.Prelude.{◌≡◌, ◌≤◌, [], IfErr, IfOk, length, map, string_bytes};
 ghost use Rattle.raft_log.specs.Peers.{IsGroupSize};
 ghost use Rattle.journal_folder.specs.Beside.{AreOldFolders};
@@ -26,10 +26,10 @@ use std::fs::{File, Files};
 use std::rt::Clock;
 use store_setup::StoreSetup;
 
-/// Begins the log of a configuration's bouncer anew in these folders, which must not run: from the setup and the number of nodes that
-/// its store is of to the configuration's. `forgotten` are names of clients that go with what they have seen. At any
-/// moment the old journals or the new ones are whole, and are those that the next run uses; the old ones are kept
-/// beside them. Where it fails, what was begun is finished by the next run, or was as if it had never been.
+/// Renews the log of a configuration's bouncer in these folders, which must not run: from the setup and the number of
+/// nodes of its store to those of the configuration. `forgotten` are names of clients that are dropped with what they
+/// have seen. At any moment the old journals or the new ones are whole, and are those that the next run uses; the old
+/// ones are kept beside them. If it fails, either the next run finishes what was begun, or nothing has changed.
 pub fn renew<R: Files<File = File> + Clock + AllocGlobal>(
     rt: &R,
     folders: &[String],
@@ -72,7 +72,7 @@ fn paths_of(alloc: Global, folders: &[String]) -> Result<Vec<Paths>, RenewFault>
     }
 }
 
-/// What a store, with what stands in its journals, is begun anew with for a configuration.
+/// The plan for renewing a store, given the states of its journals, for a configuration.
 pub fn plan_for(
     alloc: Global,
     config: &Config,
@@ -96,7 +96,7 @@ pub fn plan_for(
     planned(alloc, &store.setup, to, nodes, forgotten, group)
 }
 
-/// The same where the new log has no more than so many entries, and no name is forgotten.
+/// The same, if the new log has no more than this many entries, and no name is forgotten.
 pub fn short_plan(
     alloc: Global,
     config: &Config,
@@ -117,8 +117,8 @@ pub fn short_plan(
     plan_for(alloc, config, &[], store, group)?.within(entries)
 }
 
-/// The log of a store begun anew as it was planned for a configuration, in journals that take the place of the old
-/// ones in these folders, which are locked meanwhile.
+/// Renews the log of a store as planned for a configuration, in journals that replace the old ones in these folders,
+/// which stay locked until then.
 pub fn carry_out<R: Files<File = File> + Clock + AllocGlobal>(
     rt: &R,
     folders: &[String],
@@ -145,14 +145,14 @@ pub fn carry_out<R: Files<File = File> + Clock + AllocGlobal>(
     let outcome = replace(rt, &all, &renewing, held, plan, &now);
     if outcome.is_err() {
         for folder in &renewing {
-            // nobody uses what lies there
+            // nobody uses what is there
             let _ = remove(rt, folder.as_str());
         }
     }
     outcome
 }
 
-/// Journals as they were planned take the place of the old ones at these paths.
+/// Replaces the old journals at these paths by the planned ones.
 fn replace<R: Files<File = File> + AllocGlobal>(
     rt: &R,
     all: &[Paths],

@@ -1,4 +1,4 @@
-//! A log saved in a new store.
+//! A log that is saved in a new store.
 ghost use Rattle.std.specs.Prelude.{◌≡◌, ◌≢◌, ◌≤◌, ◌<◌, ◌++◌, false, IsTrue, IfErr, OnOk, Some, length, map, take};
 ghost use Rattle.std.specs.List.{All};
 ghost use Rattle.raft_log.specs.Batches.{batch_limit};
@@ -12,7 +12,7 @@ use stable_store::{Change, Saved, Stable, StoreFault};
 use std::alloc::Global;
 use wire_bytes::{Number, Wire};
 
-/// The node that all nodes of a group voted for in the term of a renewal.
+/// The node for which all nodes of a group have voted in the term of a renewal.
 const LEADER: u8 = 1;
 
 /// The store of a group that is not saved, from 0, and why.
@@ -22,7 +22,7 @@ pub struct Unsaved {
     pub fault: StoreFault,
 }
 
-/// Saves a log in the new stores of a group, node 1's first, in this term, behind a run of each node.
+/// Saves a log in the new stores of a group, node 1's first, in this term, after a run of each node.
 pub fn save_group<B: Wire, S: Stable<B>>(
     alloc: Global,
     stores: &mut [S],
@@ -45,8 +45,8 @@ pub fn save_group<B: Wire, S: Stable<B>>(
     Ok(())
 }
 
-/// Saves a log in a new store, behind these runs and in this term, with a vote for node 1. `NotAStore` where something
-/// stands in the store.
+/// Saves a log in a new store, after these runs and in this term, with a vote for node 1. `NotAStore` if the store is
+/// not empty.
 pub fn save_log<B: Wire, S: Stable<B>>(
     alloc: Global,
     store: &mut S,
@@ -72,7 +72,7 @@ pub fn save_log<B: Wire, S: Stable<B>>(
     Ok(())
 }
 
-/// Saves more entries, behind so many that are kept.
+/// Saves more entries, after this many that are kept.
 fn save_more<B: Wire, S: Stable<B>>(
     store: &mut S,
     boot: Number,
@@ -94,7 +94,7 @@ fn save_more<B: Wire, S: Stable<B>>(
     store.save(&Change::new(boot, term, Some(LEADER), kept, entries))
 }
 
-/// Whether nothing stands in a store.
+/// Whether nothing is saved.
 pub fn is_nothing<B: Wire>(saved: &Saved<B>) -> bool
     ensures value { result ≡ is_nothing saved.now }
     ensures nothing { IsTrue result → saved.now ≡ nothing_saved }

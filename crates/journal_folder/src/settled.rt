@@ -7,19 +7,19 @@ use file_disk::MadeFile;
 /// What a start did with the store in its folders.
 #[derive(Drop)]
 pub enum Settled {
-    /// It is new, and these are the files in which it says what it is.
+    /// It is new, and these are the files in which it records what it is.
     Made(Vec<MadeFile>),
-    /// It is of before stores said what they are, and says so in these files from now on.
+    /// It is from before stores recorded what they are, and does so in these files from now on.
     Described(Vec<MadeFile>),
     /// It goes on.
     Same,
-    /// Its log came about under another setup or another number of nodes, and was begun anew.
+    /// Its log had another setup or another number of nodes, and was renewed.
     Changed(ChangedKeys, Renewed),
-    /// Journals of it were lost, which are told of, and its log was begun anew from the others. The values of these
-    /// keys differ, if any do.
+    /// Journals of it were lost, which are reported, and its log was renewed from the others. The values of these keys
+    /// differ, if there are any.
     Lost(ChangedKeys, Renewed),
-    /// Its log had more entries than it is to have, and was begun anew.
+    /// Its log had more entries than it should have, and was renewed.
     Long(Renewed),
-    /// Its log has more entries than it is to have, and can't be begun anew. It goes on as it was.
+    /// Its log has more entries than it should have, and can't be renewed. It goes on as it was.
     StaysLong(RenewFault),
 }

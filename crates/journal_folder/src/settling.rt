@@ -1,4 +1,4 @@
-//! What a start does before any journal is opened: the store is of the configuration's setup from then on.
+//! What a start does before any journal is opened: from then on the store has the configuration's setup.
 ghost use Rattle.std.specs.Prelude.{◌≡◌, ◌≢◌, ◌<◌, ◌≤◌, ℕ, [], IfErr, IfOk, length, map, string_bytes};
 ghost use Rattle.raft_log.specs.Peers.{IsGroupSize};
 ghost use Rattle.journal_folder.specs.Faults.{IsOfFiles, IsUnnamedIn};
@@ -28,10 +28,10 @@ use std::rt::Clock;
 use store_setup::StoreSetup;
 use wire_bytes::Number;
 
-/// The store in these folders, which are there and in which no renewal waits to be finished, is made
-/// one of a configuration's setup and of as many nodes. A log that came about under others is begun anew, and so is one of more
-/// than `renew_at` entries, if that is not 0, and one some of whose journals are missing or empty. Where it fails, the
-/// folders are as they were, or what was begun is finished by the next start.
+/// Makes the store in these folders, which exist and in which no renewal waits to be finished, one of a configuration's
+/// setup and of as many nodes. A log with other ones is renewed, and so is one of more than `renew_at` entries, if that
+/// is not 0, and one some of whose journals are missing or empty. If it fails, the folders are unchanged, or the next
+/// start finishes what was begun.
 pub fn settle<R: Files<File = File> + Clock + AllocGlobal>(
     rt: &R,
     folders: &[String],
@@ -51,7 +51,7 @@ pub fn settle<R: Files<File = File> + Clock + AllocGlobal>(
         Next::Make => make(rt, folders, config),
         Next::Describe => settle_older(rt, folders, config, renew_at),
         Next::GoOn => {
-            // journals are read here only where one may be lost, or too long
+            // journals are read here only if one may be lost, or too long
             match look_at(rt, folders, nodes)? {
                 Look::New => Ok(Settled::Same),
                 Look::Full if renew_at == 0 => Ok(Settled::Same),
@@ -62,7 +62,7 @@ pub fn settle<R: Files<File = File> + Clock + AllocGlobal>(
     }
 }
 
-/// The same of a store of before, of the configuration's number of nodes.
+/// The same for a store from before stores recorded what they are, with the configuration's number of nodes.
 fn settle_older<R: Files<File = File> + Clock + AllocGlobal>(
     rt: &R,
     folders: &[String],
@@ -84,7 +84,7 @@ fn settle_older<R: Files<File = File> + Clock + AllocGlobal>(
     describe_locked(rt, folders, config)
 }
 
-/// A new store says what it is.
+/// Lets a new store record what it is.
 fn make<R: Files<File = File> + Clock + AllocGlobal>(
     rt: &R,
     folders: &[String],
@@ -98,7 +98,7 @@ fn make<R: Files<File = File> + Clock + AllocGlobal>(
     Ok(Settled::Made(describe_as(rt, folders, config)?))
 }
 
-/// A store of before says what it is, while its journals are locked.
+/// Lets a store from before that record what it is, while its journals are locked.
 fn describe_locked<R: Files<File = File> + Clock + AllocGlobal>(
     rt: &R,
     folders: &[String],
@@ -111,13 +111,13 @@ fn describe_locked<R: Files<File = File> + Clock + AllocGlobal>(
 {
     let _locks = lock_all(rt, folders)?;
     if let Some(described) = first_described(rt, folders)? {
-        // another program was about it before these locks were there
+        // another program was at work on it before these locks were taken
         return Err(RenewFault::Busy(described.path));
     }
     Ok(Settled::Described(describe_as(rt, folders, config)?))
 }
 
-/// A store says that it is of a configuration, that its log was never begun anew, and what its name is from here on.
+/// Lets a store record the setup of a configuration, that its log was never renewed, and its name from here on.
 fn describe_as<R: Files<File = File> + Clock + AllocGlobal>(
     rt: &R,
     folders: &[String],
@@ -131,7 +131,7 @@ fn describe_as<R: Files<File = File> + Clock + AllocGlobal>(
     describe_all(rt, folders, &store)
 }
 
-/// The same of a store each of whose journals is read, behind their locks: its log is begun anew also where one is
+/// The same for a store each of whose journals is read, after they are locked: its log is also renewed if one is
 /// damaged.
 pub fn settle_by_reading<R: Files<File = File> + Clock + AllocGlobal>(
     rt: &R,
@@ -161,8 +161,8 @@ pub fn settle_by_reading<R: Files<File = File> + Clock + AllocGlobal>(
     }
 }
 
-/// The log of a store some of whose journals are lost is begun anew from the others. The values of these keys differ, if
-/// any do.
+/// Renews the log of a store, some of whose journals are lost, from the other journals. The values of these keys differ,
+/// if there are any.
 fn begin_without<R: Files<File = File> + Clock + AllocGlobal>(
     rt: &R,
     folders: &[String],
@@ -192,7 +192,7 @@ fn begin_without<R: Files<File = File> + Clock + AllocGlobal>(
     Ok(renewed)
 }
 
-/// The log of a store of which the values of these keys differ is begun anew.
+/// Renews the log of a store for which the values of these keys differ.
 fn begin_changed<R: Files<File = File> + Clock + AllocGlobal>(
     rt: &R,
     folders: &[String],
@@ -221,7 +221,7 @@ fn begin_changed<R: Files<File = File> + Clock + AllocGlobal>(
     Ok((keys, renewed))
 }
 
-/// A store goes on, a log of which has more entries than so many: begun anew, where that is shorter.
+/// Lets a store go on, a log of which has more entries than this many: renewed, if that is shorter.
 fn settle_long<R: Files<File = File> + Clock + AllocGlobal>(
     rt: &R,
     folders: &[String],

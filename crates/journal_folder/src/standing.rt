@@ -1,4 +1,4 @@
-//! What stands for the journals of a group, some of which may be lost.
+//! The states of the journals of a group, some of which may be lost.
 ghost use Rattle.std.specs.Prelude.{◌≡◌, ◌⊎◌, ◌<◌, ◌≤◌, ◌++◌, ◌+◌, [], None, IfErr, IfOk, OnOk, length};
 ghost use Rattle.journal_folder.specs.Counting.{boot_told};
 ghost use Rattle.journal_folder.specs.Runs.{greatest_boot, last_run, run_told};
@@ -16,35 +16,35 @@ use stable_store::Saved;
 use std::alloc::{AllocError, Global};
 use wire_bytes::{Copied, LAST_NUMBER, Number};
 
-/// How far a node whose journal is lost begins behind the greatest run of it that the other logs tell of.
-// runs of which nothing was agreed are known to no other node, and no run may come again. With no majority a node begins
-// once in 2 s at most, so that it takes 23 days to use up so many
+/// A node whose journal is lost begins this far after the greatest run of it that the other logs mention.
+// no other node knows of runs in which nothing was agreed, and no run may come again. Without a majority a node begins
+// at most one in 2 s, so that it takes 23 days to use up this many
 const RUNS_APART: u64 = 1_000_000;
 
-/// What is found of a journal by its file alone.
+/// What the file of a journal shows.
 #[derive(Drop)]
 pub enum Journal {
-    /// This stands in it.
+    /// This is saved in it.
     Whole(Saved<TowerBody>),
     Lost(Loss),
 }
 
-/// What is found of the journal of a node.
+/// The state of the journal of a node.
 #[derive(Drop)]
 pub struct NodeJournal {
     pub node: NodeId,
     pub journal: Journal,
 }
 
-/// What stands for the journals of a group.
+/// The states of the journals of a group.
 #[derive(Drop)]
 pub struct Standing {
-    /// What stands in each journal, node 1's first. For one that is lost a store that holds nothing but a run.
+    /// What is saved in each journal, node 1's first. For one that is lost, a store that holds nothing but a run.
     pub saved: Vec<Saved<TowerBody>>,
     pub lost: LostJournals,
 }
 
-/// What stands for the journals of a group in these folders, more than half of which are whole.
+/// The states of the journals of a group in these folders, more than half of which are whole.
 pub fn stand_for(
     alloc: Global,
     folders: &[String],
@@ -69,7 +69,7 @@ pub fn stand_for(
     })
 }
 
-/// The journals that are lost of these, which are of this group.
+/// Appends the ones among these journals, of this group, that are lost.
 fn push_losses(
     lost: &mut Vec<LostJournal>,
     journals: &[NodeJournal],
@@ -119,7 +119,7 @@ fn loss_in(first: &NodeJournal, group: &[NodeJournal]) -> Option<Loss>
     }
 }
 
-/// Whether nothing is saved in any of these journals that is there.
+/// Whether nothing is saved in any of these journals that exists.
 fn is_new(group: &[NodeJournal]) -> bool
     ensures { result ≡ is_new group.now }
 {
@@ -159,7 +159,7 @@ fn holds_entries(journal: &Journal) -> bool
     }
 }
 
-/// What stands for these journals, which are of this group.
+/// Appends the states of these journals, of this group.
 fn push_standing(
     alloc: Global,
     saved: &mut Vec<Saved<TowerBody>>,
@@ -184,7 +184,7 @@ fn push_standing(
     }
 }
 
-/// What stands for a journal of a group.
+/// The state of a journal of a group.
 fn saved_for(
     alloc: Global,
     journal: &NodeJournal,
@@ -204,7 +204,7 @@ fn saved_for(
     }
 }
 
-/// What stands for the lost journal of a node: nothing but a run behind all of which the others' logs tell.
+/// What stands in for the lost journal of a node: nothing but a run after all that the others' logs mention.
 fn stand_in(
     alloc: Global,
     node: NodeId,
@@ -233,7 +233,7 @@ fn with_run(alloc: Global, boot: Number) -> Saved<TowerBody>
     }
 }
 
-/// The last run of a node that the logs in these journals tell to have begun.
+/// The last run of a node that has begun according to the logs in these journals.
 fn run_told(node: NodeId, group: &[NodeJournal]) -> Number
     ensures { result ≡ run_told node (all_held group.now) }
 {
@@ -246,7 +246,7 @@ fn run_told(node: NodeId, group: &[NodeJournal]) -> Number
     }
 }
 
-/// The last run of a node that the log in a journal tells to have begun.
+/// The last run of a node that has begun according to the log in a journal.
 fn run_held(node: NodeId, journal: &Journal) -> u64
     ensures run { result ≡ last_run node (held journal.now).log }
     ensures limit { result ≤ number_limit }
@@ -257,7 +257,7 @@ fn run_held(node: NodeId, journal: &Journal) -> u64
     }
 }
 
-/// The greatest run of a node that the logs in these journals tell of.
+/// The greatest run of a node that the logs in these journals mention.
 fn boot_told(node: NodeId, group: &[NodeJournal]) -> Number
     ensures { result ≡ boot_told node (all_held group.now) }
 {
@@ -270,7 +270,7 @@ fn boot_told(node: NodeId, group: &[NodeJournal]) -> Number
     }
 }
 
-/// The greatest run of a node that the log in a journal tells of.
+/// The greatest run of a node that the log in a journal mentions.
 fn boot_held(node: NodeId, journal: &Journal) -> u64
     ensures boot { result ≡ greatest_boot node (held journal.now).log }
     ensures limit { result ≤ number_limit }

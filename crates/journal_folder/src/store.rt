@@ -1,4 +1,4 @@
-//! The store in some folders: what it says of itself, or what it is taken to be.
+//! The store in some folders: what it records about itself, or what it is assumed to be.
 ghost use Rattle.std.specs.Prelude.{◌≡◌, ◌≤◌, IfErr, IfOk, length};
 ghost use Rattle.raft_log.specs.Peers.{IsGroupSize};
 ghost use Rattle.journal_folder.specs.Faults.{IsOfFiles};
@@ -20,12 +20,12 @@ use std::fs::Files;
 use store_setup::{StoreSetup, changed, spell};
 use wire_bytes::Number;
 
-/// What lies in the folders of a store.
+/// What is in the folders of a store.
 #[derive(Drop)]
 pub struct Found {
-    /// What the store says of itself, if it does.
+    /// What the store records about itself, if it does.
     pub store: Option<StoreSetup>,
-    /// The greatest number of a node whose journal lies there, 0 where none does.
+    /// The greatest number of a node whose journal is there, 0 if there is none.
     pub journals: u8,
 }
 
@@ -34,11 +34,11 @@ pub struct Found {
 pub enum Next {
     /// It has no journal: its store is new.
     Make,
-    /// Its store is of before stores said what they are, and has as many nodes as the configuration.
+    /// Its store is from before stores recorded what they are, and has as many nodes as the configuration.
     Describe,
-    /// Its store is of the configuration's setup and number of nodes.
+    /// Its store has the configuration's setup and number of nodes.
     GoOn,
-    /// Its log came about under another setup or another number of nodes.
+    /// Its log has another setup or another number of nodes.
     BeginAnew,
 }
 
@@ -53,7 +53,7 @@ pub fn size_of(config: &Config) -> GroupSize
     size
 }
 
-/// What lies in the folders of a store. `Mixed` where they are not those of one.
+/// What is in the folders of a store. `Mixed` if they do not belong to one.
 pub fn find<R: Files + AllocGlobal>(rt: &R, folders: &[String]) -> Result<Found, RenewFault>
     requires { 1 ≤ length folders.now }
     ensures limit { IfOk result (λ found. found.journals ≤ node_limit) }
@@ -65,7 +65,7 @@ pub fn find<R: Files + AllocGlobal>(rt: &R, folders: &[String]) -> Result<Found,
             journals = node.value();
         }
     }
-    // where there are no journals, each folder is described anew
+    // if there are no journals, each folder is described again
     let store = if journals == 0 {
         first_store(rt, folders)?
     } else {
@@ -74,7 +74,7 @@ pub fn find<R: Files + AllocGlobal>(rt: &R, folders: &[String]) -> Result<Found,
     Ok(Found { store, journals })
 }
 
-/// Whether a node's journal lies in its folder. `Mixed` where it lies in another one.
+/// Whether a node's journal is in its folder. `Mixed` if it is in another one.
 fn is_in_place<R: Files + AllocGlobal>(
     rt: &R,
     folders: &[String],
@@ -97,7 +97,7 @@ fn is_in_place<R: Files + AllocGlobal>(
     is_there(rt, own, node)
 }
 
-/// What the store says of itself in the first of these folders in which it does.
+/// What the store records about itself in the first of these folders in which it does.
 fn first_store<R: Files + AllocGlobal>(
     rt: &R,
     folders: &[String],
@@ -110,8 +110,8 @@ fn first_store<R: Files + AllocGlobal>(
     }
 }
 
-/// What the store in these folders says of itself, if it does. `Mixed` where two of them say something else, and where
-/// one that has a journal says nothing while another one does.
+/// What the store in these folders records about itself, if it does. `Mixed` if two of them differ, or if one with a
+/// journal records nothing while another one does.
 fn store_in_all<R: Files + AllocGlobal>(
     rt: &R,
     folders: &[String],
@@ -140,7 +140,7 @@ fn store_in_all<R: Files + AllocGlobal>(
     Ok(Some(store))
 }
 
-/// Whether a journal of any node lies in a folder.
+/// Whether a folder has a journal of any node.
 fn has_journal<R: Files + AllocGlobal>(rt: &R, folder: &str) -> Result<bool, RenewFault>
     ensures { IfErr result IsOfFiles }
 {
@@ -152,7 +152,7 @@ fn has_journal<R: Files + AllocGlobal>(rt: &R, folder: &str) -> Result<bool, Ren
     Ok(false)
 }
 
-/// Whether a node's journal lies in a folder.
+/// Whether a folder has a node's journal.
 pub fn is_there<R: Files + AllocGlobal>(
     rt: &R,
     folder: &str,
@@ -167,7 +167,7 @@ pub fn is_there<R: Files + AllocGlobal>(
     }
 }
 
-/// What a start does with what was found in the folder of a configuration that has this setup and so many nodes.
+/// What a start does with what was found in the folder of a configuration that has this setup and this many nodes.
 pub fn next_of(
     alloc: Global,
     found: &Found,
@@ -192,7 +192,7 @@ pub fn next_of(
     }
 }
 
-/// The same of a store that says nothing of itself.
+/// The same for a store that records nothing about itself.
 fn next_of_before(journals: u8, nodes: GroupSize) -> Next
     requires { journals ≤ node_limit }
     ensures { result ≡ next_of_before journals nodes }
@@ -204,8 +204,8 @@ fn next_of_before(journals: u8, nodes: GroupSize) -> Next
     }
 }
 
-/// What the store is taken to be that was found: what it says of itself; or of today's setup and of as many nodes as
-/// its journals ask for.
+/// What the store that was found is assumed to be: what it records about itself; or one with the present setup and as
+/// many nodes as its journals need.
 pub fn store_of(alloc: Global, found: Found, setup: &Setup) -> Result<StoreSetup, AllocError>
     requires { found.journals ≤ node_limit }
     ensures { IfOk result (λ store. store ≡ store_of found setup.now) }

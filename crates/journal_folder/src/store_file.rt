@@ -1,4 +1,4 @@
-//! The file in which a store says what it is.
+//! The file in which a store records what it is.
 ghost use Rattle.std.specs.Prelude.{◌≡◌, IfErr, IfOk, length, string_bytes};
 ghost use Rattle.journal_folder.specs.Faults.{IsOfFiles};
 ghost use Rattle.journal_folder.specs.Stores.{setup_path};
@@ -14,10 +14,10 @@ use std::os::fd::AsRawFd;
 use std::os::unix::fs::OpenOptionsExt;
 use store_setup::{StoreSetup, read, spell};
 
-/// Nobody but its owner reads it: the nick and the channels stand in it.
+/// Only its owner can read it: it contains the nick and the channels.
 const OWNERS: u32 = 0o600;
 
-/// What a store says of itself in the file of a path.
+/// What a store records about itself in the file of a path.
 #[derive(Drop)]
 pub struct Described {
     pub path: String,
@@ -31,7 +31,7 @@ pub fn setup_path(alloc: Global, folder: &str) -> Result<String, AllocError>
     format!(in alloc; "{folder}/setup")
 }
 
-/// What the store in a folder says of itself, if it does.
+/// What the store in a folder records about itself, if it does.
 pub fn read_setup<R: Files + AllocGlobal>(
     rt: &R,
     folder: &str,
@@ -50,7 +50,7 @@ pub fn read_setup<R: Files + AllocGlobal>(
     }
 }
 
-/// What the store says of itself in the first of these folders in which it does.
+/// What the store records about itself in the first of these folders in which it does.
 pub fn first_described<R: Files + AllocGlobal>(
     rt: &R,
     folders: &[String],
@@ -66,8 +66,8 @@ pub fn first_described<R: Files + AllocGlobal>(
     Ok(None)
 }
 
-/// The store in each of these folders says this of itself from here on. The files in which it does, open and locked.
-/// Where it fails they are gone again.
+/// Records this about the store in each of these folders. Returns the files, open and locked. If it fails they are
+/// removed again.
 pub fn describe_all<R: Files<File = File> + AllocGlobal>(
     rt: &R,
     folders: &[String],
@@ -90,15 +90,15 @@ pub fn describe_all<R: Files<File = File> + AllocGlobal>(
     Ok(made)
 }
 
-/// Files that were made are gone again, as far as the system does as it is told.
+/// Removes files that were made, as far as the system allows.
 fn remove_all<R: Files>(rt: &R, made: &[MadeFile]) {
     for file in made {
         let _ = file.remove(rt);
     }
 }
 
-/// The store in a folder says this of itself from here on. A crash leaves what it said before, or this. The file in
-/// which it does, open and locked.
+/// Records this about the store in a folder. A crash leaves what was recorded before, or this. Returns the file, open
+/// and locked.
 pub fn describe<R: Files<File = File> + AllocGlobal>(
     rt: &R,
     folder: &str,
@@ -117,15 +117,14 @@ pub fn describe<R: Files<File = File> + AllocGlobal>(
         },
         Ok(None) => Err(RenewFault::Busy(path)),
         Err(error) => {
-            // nobody uses what lies there
+            // nobody uses what is there
             let _ = fs::remove_file(rt, new.as_str());
             Err(RenewFault::System(path, error))
         }
     }
 }
 
-/// A new file of these bytes takes the place of what lies at a path, synced. None where another program is about
-/// that just now.
+/// Replaces what is at a path by a new file with these bytes, synced. None if another program does so at this moment.
 fn put_in_place<R: Files<File = File>>(
     rt: &R,
     new: &str,
@@ -135,7 +134,7 @@ fn put_in_place<R: Files<File = File>>(
     let Some(mut file) = open_locked(rt, new)? else {
         return Ok(None);
     };
-    // a program that just now makes a store holds the lock until its start is done
+    // a program that is making a store holds the lock until its start is done
     if is_locked(rt, path)? {
         return Ok(None);
     }
@@ -144,22 +143,22 @@ fn put_in_place<R: Files<File = File>>(
     file.sync_all()?;
     fs::rename(rt, new, path)?;
     if let Err(error) = sync_around(rt, path) {
-        // a crash may take it back, so nobody uses it
+        // a crash may undo it, so nobody uses it
         let _ = fs::remove_file(rt, path);
         return Err(error);
     }
     Ok(Some(file))
 }
 
-/// The file of a path, which is made where it is not there, locked. None where another program has it, or has moved
-/// it away.
+/// The file of a path, which is made if it does not exist, locked. None if another program has it, or has moved it
+/// away.
 fn open_locked<R: Files<File = File>>(rt: &R, path: &str) -> io::Result<Option<File>> {
     let mut file = OpenOptions::new()
         .write(true)
         .create(true)
         .mode(OWNERS)
         .open(rt, path)?;
-    // what is printed to a standard stream that was closed must not land in the file
+    // what is printed to a standard stream that was closed must not end up in the file
     if file.as_raw_fd() <= 2 {
         file = file.try_clone()?;
     }
@@ -179,7 +178,7 @@ fn is_locked<R: Files<File = File>>(rt: &R, path: &str) -> io::Result<bool> {
     }
 }
 
-/// Whether a file is locked now. It is not where another program has it locked.
+/// Locks a file, unless another program has it locked; returns whether it is locked now.
 fn try_lock(file: &File) -> io::Result<bool> {
     match file.try_lock() {
         Ok(()) => Ok(true),

@@ -6,8 +6,8 @@ use std::time::{Duration, SystemTime, UNIX_EPOCH};
 use store_setup::StoreSetup;
 use wire_bytes::{LAST_NUMBER, Number};
 
-/// A name for a store that has none yet: the moment now, in microseconds since 1970. Two stores of one user are not made
-/// in the same microsecond.
+/// A name for a store that has none yet: the present moment, in microseconds since 1970. No user makes two stores in
+/// the same microsecond.
 pub fn new_name(rt: &impl Clock) -> Number {
     let Ok(time) = SystemTime::now(rt) else {
         return Number::new(0);
@@ -18,7 +18,7 @@ pub fn new_name(rt: &impl Clock) -> Number {
     }
 }
 
-/// The name that a store has once its log is begun anew: its own, if it has one.
+/// The name that a store has once its log is renewed: its own, if it has one.
 pub fn name_behind(rt: &impl Clock, store: &StoreSetup) -> Number
     ensures { (name : ℕ) → store.now.name ≡ Some name → result ≡ name }
 {
@@ -28,7 +28,7 @@ pub fn name_behind(rt: &impl Clock, store: &StoreSetup) -> Number
     }
 }
 
-/// The name of a store that is made so long after 1970.
+/// The name of a store that is made this long after 1970.
 fn name_at(since: Duration) -> Number {
     let micros = since
         .as_secs()

@@ -16,7 +16,7 @@ vote_named : (vote : Option ℕ) → NamesNode vote → names_node vote ≡ true
 vote_named None h = refl
 vote_named (Some node) h = and_from _ _ (le-leb _ _ h.0) (le-leb _ _ h.1)
 
--- what may follow is taken for it by the reader
+-- the reader accepts a change that may follow
 pub may_be : {B : Type 0} (s : Saved B) (c : ChangeParts B) → MayFollow s c → may_follow s c ≡ true
 may_be s c may =
     and_from _ _ (and_from _ _ (le-leb _ _ may.kept) (le-leb _ _ may.room))

@@ -1,4 +1,4 @@
--- What the calls that open a disk keep of it.
+-- What the calls that open a disk preserve.
 use Rattle.std.proofs.Common.{◌≡◌, ◌≤◌, inl, inr, ℕ, List, ◌++◌, length, Err, refl, sym, ◌∙◌, ap, subst, append_assoc}
 use Rattle.std.specs.Prelude.{IsErr}
 use Rattle.wire_bytes.specs.Fields.{Reading}
@@ -12,7 +12,7 @@ use Rattle.journal_store.specs.Serving.{IsNew}
 use Rattle.journal_store.proofs.Moments.{each_joined, each_through}
 
 module _ {B : Type 0} (body : Reading B) where
-  -- at no moment could a crash leave more, where nothing is written
+  -- if nothing is written, a crash could leave nothing new at any moment
   pub kept_adopted : (old new : List DiskState) → Runs (now old) old new → LeavesOnly (IsKept body (now old)) old new
   kept_adopted old new runs = record {
     added = runs.added;
@@ -20,7 +20,7 @@ module _ {B : Type 0} (body : Reading B) where
     each = each_through (λ s. Within s (now old)) (Leaves (IsKept body (now old))) (λ s within file im. inl (within.leaves file im)) runs.added runs.each;
   }
 
-  -- nor where a file becomes a new journal, but that
+  -- if a file becomes a new journal, a crash could leave only what it could before, or a new file
   pub kept_made : (old mid new : List DiskState) → IsToBeMade body (now old) → Runs (now old) old mid → LeavesOnly (IsNew body) mid new → LeavesOnly (IsKept body (now old)) old new
   kept_made old mid new made_of runs made =
       let before = kept_adopted old mid runs in

@@ -1,4 +1,4 @@
--- What the four calls of a save keep of a journal.
+-- What the four calls of a save preserve of a journal.
 use Rattle.std.proofs.Common.{◌≡◌, inl, inr, ⊎_elim, ℕ, ◌+◌, ◌<◌, ◌≤◌, List, ◌∷◌, [], length, sym, ap, subst, arith}
 use Rattle.wire_bytes.specs.Fields.{Reading}
 use Rattle.wire_bytes.specs.Codecs.{IsCodec}
@@ -17,7 +17,7 @@ use Rattle.journal_store.proofs.Scanning.{Spells}
 use Rattle.journal_store.proofs.Standing.{after_save}
 use Rattle.journal_store.proofs.Saving.{first_rest, first_within, mid_is, place_within, save_moments, save_done, second_long, second_write, written_again}
 
--- the gate of a settled journal lies in its file
+-- the gate of a settled journal is within its file
 pub gate_within : {B : Type 0} (body : Reading B) (states : List DiskState) (s : Saved B) (place : ℕ) → IsSettled body states s place → place < length (now states).bytes
 gate_within body states s place settled =
     subst (λ (d : DiskState). place < length d.bytes) (sym settled.settled) (place_within (payloads body) nothing_saved settled.file s place settled.rest)
@@ -36,7 +36,7 @@ module _ {B : Type 0} (spelled : B → List ℕ) (fits : B → Type 0) (taken : 
   pub moments_of : (known : Known) → Gated place bytes old new known → LeavesOnly (IsBeforeOrAfter taken s c) old new
   moments_of known calls = save_moments (payloads taken) nothing_saved settled.file s place settled.rest c payload spell old new known settled.settled (of_staged known calls)
 
-  -- what stopped up to the first sync
+  -- if the calls stopped before the first sync was done
   staged_now : (calls : Gated place (staged payload) old new ToGate) → new ≡ calls.mid → Within (now new) (writing (place + 1) (length (staged payload)) (settled_at settled.file))
   staged_now calls stopped =
       subst (λ (l : List DiskState). Within (now l) (writing (place + 1) (length (staged payload)) (settled_at settled.file))) (sym stopped)
@@ -50,7 +50,7 @@ module _ {B : Type 0} (spelled : B → List ℕ) (fits : B → Type 0) (taken : 
       let h = subst (λ (b : DiskState). IsAtRisk r (writing place 1 b)) is at in
       ⊎_elim (λ w. ⊎_elim (λ same. (omega (arith, ap (λ (q : Range). q.place) same), omega (arith, ap (λ (q : Range). q.place) same, ap (λ (q : Range). q.size) same))) (λ none. absurd none) w) (λ l. absurd l) h
 
-  -- what stopped behind it
+  -- if they stopped after it
   gate_written : (calls : Gated place (staged payload) old new ButGate) → IsImage (now new) (now new).bytes
       → (now calls.mid ≡ settled_at (written_over (now old).bytes (place + 1) (staged payload))) × Runs (writing place 1 (now calls.mid)) calls.mid new
       → (f : List ℕ) → IsImage (writing place 1 (now new)) f → IsBeforeOrAfter taken s c f × (place < length f)
@@ -101,11 +101,11 @@ module _ {B : Type 0} (spelled : B → List ℕ) (fits : B → Type 0) (taken : 
     | inr went_on ↦ λ f im. (gate_written calls own went_on.1 f im).0
   ]
 
-  -- whatever the four calls came to, what is known to be on the disk is
+  -- however far the four calls came, what is known to be on the disk is there
   pub sound_on : (known : Known) → Gated place bytes old new known → IsImage (now new) (now new).bytes → IsSound taken new s place known
   sound_on known calls own = sound_staged known (of_staged known calls) own
 
-  -- and each file that a crash leaves stands for what was before or after, though the gate may be open or closed
+  -- and each file that a crash leaves stands for what was before or after, whether the gate is open or closed
   pub doubt_on : (known : Known) → Gated place bytes old new known → IsImage (now new) (now new).bytes → Leaves (IsBeforeOrAfter taken s c) (doubted (doubt_of known place) (now new))
   doubt_on known calls own = doubt_staged known (of_staged known calls) own (moments_of known calls)
 

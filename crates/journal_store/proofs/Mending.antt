@@ -1,4 +1,4 @@
--- What a store keeps while it writes again what may not be on its disk.
+-- What a store preserves while it writes again what may not be on its disk.
 use Rattle.std.proofs.Common.{◌≡◌, inl, inr, ⊎_elim, ℕ, ◌+◌, ◌-◌, ◌<◌, List, [], length, Result, Ok, Err, refl, sym, ◌∙◌, ap, subst, arith}
 use Rattle.wire_bytes.specs.Fields.{Reading}
 use Rattle.stable_store.specs.declared.saved.Saved.{Saved}
@@ -27,7 +27,7 @@ module _ {B : Type 0} (body : Reading B) where
   closed_stands : (place : ℕ) (file : List ℕ) → (closed : IsClosedAt body place file) → StandsFor body closed.0 file
   closed_stands place file closed = stands (payloads body) nothing_saved file closed.0 place closed.1
 
-  -- a settled journal, as one of which less is known
+  -- a settled journal is also one of which less is known
   pub settled_staged : (states : List DiskState) (s : Saved B) (place : ℕ) → IsSettled body states s place → IsStaged body states place
   settled_staged states s place settled = record {
     closed = λ f im.
@@ -36,7 +36,7 @@ module _ {B : Type 0} (body : Reading B) where
     behind = λ r h. ⊎_elim (λ w. absurd w) (λ l. absurd l) (subst (λ (d : DiskState). IsAtRisk r d) settled.settled h);
   }
 
-  -- what a crash leaves before it leaves meanwhile
+  -- a crash during the rewriting can leave whatever one before it could
   pub before_rewriting : (known : Known) (place : ℕ) (s : DiskState) → Within s (rewriting known place s)
   before_rewriting All place s = within_self s
   before_rewriting ToGate place s = while_writing (place + 1) (length s.bytes - (place + 1)) s
@@ -58,13 +58,13 @@ module _ {B : Type 0} (body : Reading B) where
     pub not_refused : (known : Known) → IsSound body old s place known → (e : StoreFault) → IsRefusedAs body (now old).bytes e → ⊥
     not_refused known sound e is = let one = readable known sound (now old).bytes own in not_both one.0 e (sym one.1 ∙ is)
 
-    -- what is read may stand
+    -- the store may hold what is read
     pub read_stands : (known : Known) → IsSound body old s place known → (v : Saved B) → StandsFor body v (now old).bytes → MayStand body old s (is_broken known) (doubt_of known place) v
     read_stands All sound v is = one_saved v s (sym is ∙ settled_stands body old s place sound (now old).bytes own)
     read_stands ToGate sound v is = record { file = (now old).bytes; image = own; stands = is }
     read_stands ButGate sound v is = record { file = (now old).bytes; image = (while_writing place 1 (now old)).leaves (now old).bytes own; stands = is }
 
-    -- of a settled journal nothing is left off the disk
+    -- for a settled journal nothing is missing on the disk
     pub settled_left : (known : Known) → known ≡ All → IsSound body old s place known → (now old).left ≡ []
     settled_left All e sound = ap (λ (d : DiskState). d.left) sound.settled
     settled_left ToGate e sound = absurd cc
@@ -106,7 +106,8 @@ module _ {B : Type 0} (body : Reading B) where
         let closed = sound.closed (patch k m (now old).bytes f) (behind_image sound f im) in
         same_to_gate (payloads body) nothing_saved (patch k m (now old).bytes f) closed.0 place closed.1 f (sym (patch_front k m (now old).bytes f))
 
-    -- what a crash leaves meanwhile stands for what might have stood
+    -- what a crash leaves during the rewriting stands for something that the store might have held
+    -- before
     pub rewriting_stands : (known : Known) → IsSound body old s place known → (f : List ℕ) → IsImage (rewriting known place (now old)) f → StandsForAny body (MayStand body old s (is_broken known) (doubt_of known place)) f
     rewriting_stands All sound f im = (s, (refl, settled_stands body old s place sound f im))
     rewriting_stands ToGate sound f im =
@@ -132,13 +133,14 @@ module _ {B : Type 0} (body : Reading B) where
       gate_rewritten : Runs (writing place 1 (now old)) old new → Within (now new) (writing place 1 (now old))
       gate_rewritten runs = within_now (writing place 1 (now old)) old new (while_writing place 1 (now old)) runs
 
-      -- also while it is written once more
+      -- also if it is written once more
       gate_again : IsOpening body old place → Runs (writing place 1 (now old)) old new → (f : List ℕ) → IsImage (writing place 1 (now new)) f → IsImage (writing place 1 (now old)) f
       gate_again sound runs f im =
           let within = gate_rewritten runs in
           rewritten (now new) place 1 own_new (omega (arith, (sound.either (now new).bytes (within.leaves (now new).bytes own_new)).1)) (now old) within f im
 
-      -- where a call of it failed, as much is known as before, but for a journal that was settled
+      -- if one of the calls failed, as much is known as before, except for a journal that was
+      -- settled
       pub error_sound : (known : Known) → IsSound body old s place known → Runs (rewriting known place (now old)) old new → IsSound body new t place (after_error known)
       error_sound All sound runs =
           let within = within_now (now old) old new (within_self (now old)) runs in
@@ -157,7 +159,7 @@ module _ {B : Type 0} (body : Reading B) where
             gate = λ r h. ⊎_elim (λ w. ⊎_elim (λ is. (omega (arith, ap (λ (q : Range). q.place) is), omega (arith, ap (λ (q : Range). q.place) is, ap (λ (q : Range). q.size) is))) (λ more. sound.gate r (inl more)) w) (λ l. sound.gate r (inr l)) (within.risks r h);
           }
 
-      -- and nothing may stand but what might before
+      -- and the store may hold only what it might before
       pub error_stands : (known : Known) → IsSound body old s place known → Runs (rewriting known place (now old)) old new
           → MayStandStill (MayStand body old s (is_broken known) (doubt_of known place)) (MayStand body new t (is_broken (after_error known)) (doubt_of (after_error known) place))
       error_stands All sound runs v is =

@@ -15,7 +15,7 @@ each_through P Q to (s ∷ a) h = (to s h.0, each_through P Q to a h.1)
 pub started : (P : List ℕ → Type 0) (old : List DiskState) → LeavesOnly P old old
 started P old = record { added = []; joined = refl; each = tt }
 
--- one call more
+-- one more call
 pub goes_on : (P : List ℕ → Type 0) (bound : DiskState) (old mid new : List DiskState) → LeavesOnly P old mid → Runs bound mid new → Leaves P bound → LeavesOnly P old new
 goes_on P bound old mid new so_far call here = record {
   added = call.added ++ so_far.added;
@@ -23,7 +23,7 @@ goes_on P bound old mid new so_far call here = record {
   each = each_joined (Leaves P) call.added so_far.added (each_through (λ s. Within s bound) (Leaves P) (λ s within file im. here file (within.leaves file im)) call.added call.each) so_far.each;
 }
 
--- the state at the end is one of them, or the one from before
+-- the final state is one of them, or the one from before
 pub ends : (P : DiskState → Type 0) (old new : List DiskState) → P (now old) → Adds P old new → P (now new)
 ends P old new before call = subst (λ l. P (now l)) (sym call.joined) (of call.added call.each)
   where
@@ -37,7 +37,7 @@ within_self s = record { leaves = λ file im. im; risks = λ r h. h }
 pub within_both : (s mid bound : DiskState) → Within s mid → Within mid bound → Within s bound
 within_both s mid bound first second = record { leaves = λ file im. second.leaves file (first.leaves file im); risks = λ r h. second.risks r (first.risks r h) }
 
--- a state's own images are there still while more is written
+-- a crash can still leave a state's own images while more is written
 pub while_writing : (at n : ℕ) (s : DiskState) → Within s (writing at n s)
 while_writing at n s = record {
   leaves = λ file im. record { no_shorter = im.no_shorter; no_longer = omega (arith, im.no_longer); stays = λ i lt inside out left. im.stays i lt inside out.1 left };
@@ -47,7 +47,7 @@ while_writing at n s = record {
 pub within_now : (bound : DiskState) (old new : List DiskState) → Within (now old) bound → Runs bound old new → Within (now new) bound
 within_now bound old new = ends (λ s. Within s bound) old new
 
--- a sync behind a write
+-- a sync after a write
 pub then_syncs : (bound : DiskState) (old mid new : List DiskState) → Within (now old) bound → Runs bound old mid → Runs (now mid) mid new → Runs bound old new
 then_syncs bound old mid new before write sync = record {
   added = sync.added ++ write.added;

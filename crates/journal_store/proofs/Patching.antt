@@ -1,9 +1,10 @@
--- What is written again as it is read: each file that a crash leaves meanwhile is one that it left before, but for that range.
+-- What is written again as it was read: each file that a crash leaves in between is one that it could leave before,
+-- except in that range.
 use Rattle.std.proofs.Common.{◌≡◌, ◌⊎◌, inl, inr, ⊎_elim, ℕ, zero, suc, ◌+◌, ◌<◌, ◌≤◌, List, [], ◌∷◌, length, take, get_or, refl, sym, ◌∙◌, ap, arith}
 use Rattle.std.proofs.lemmas.Bool.{cases_lt}
 use Rattle.journal_store.specs.Disks.{DiskState, IsImage, IsOutside, Within, writing}
 
--- a file with so many bytes from a place on as these have them
+-- a file in which this many bytes from a place on are replaced by these
 abbrev pub patch : ℕ → ℕ → List ℕ → List ℕ → List ℕ
 patch k m bytes [] = []
 patch k m [] (x ∷ file) = x ∷ file
@@ -18,7 +19,7 @@ patch_length zero zero (y ∷ bytes) (x ∷ file) = refl
 patch_length zero (suc m) (y ∷ bytes) (x ∷ file) = ap suc (patch_length zero m bytes file)
 patch_length (suc k) m (y ∷ bytes) (x ∷ file) = ap suc (patch_length k m bytes file)
 
--- outside of the range it is as it was
+-- outside of the range it is unchanged
 pub patch_out : (k m : ℕ) (bytes file : List ℕ) (i : ℕ) → (i < k) ⊎ (k + m ≤ i) → get_or (patch k m bytes file) i 0 ≡ get_or file i 0
 patch_out k m bytes [] i out = refl
 patch_out k m [] (x ∷ file) i out = refl
@@ -28,7 +29,7 @@ patch_out zero (suc m) (y ∷ bytes) (x ∷ file) (suc i) out = patch_out zero m
 patch_out (suc k) m (y ∷ bytes) (x ∷ file) zero out = refl
 patch_out (suc k) m (y ∷ bytes) (x ∷ file) (suc i) out = patch_out k m bytes file i (⊎_elim (λ l. inl (omega (arith, l))) (λ r. inr (omega (arith, r))) out)
 
--- within it, as these bytes have it
+-- within the range it has these bytes
 pub patch_in : (k m : ℕ) (bytes file : List ℕ) (i : ℕ) → k ≤ i → i < k + m → i < length file → i < length bytes → get_or (patch k m bytes file) i 0 ≡ get_or bytes i 0
 patch_in k m bytes [] i above below lt long = absurd (omega (arith, lt))
 patch_in k m [] (x ∷ file) i above below lt long = absurd (omega (arith, long))
@@ -38,7 +39,7 @@ patch_in zero (suc m) (y ∷ bytes) (x ∷ file) (suc i) above below lt long = p
 patch_in (suc k) m (y ∷ bytes) (x ∷ file) zero above below lt long = absurd (omega (arith, above))
 patch_in (suc k) m (y ∷ bytes) (x ∷ file) (suc i) above below lt long = patch_in k m bytes file i (omega (arith, above)) (omega (arith, below)) (omega (arith, lt)) (omega (arith, long))
 
--- up to the range it is as it was
+-- up to the range it is unchanged
 pub patch_front : (k m : ℕ) (bytes file : List ℕ) → take k (patch k m bytes file) ≡ take k file
 patch_front k m bytes [] = refl
 patch_front k m [] (x ∷ file) = refl
@@ -57,7 +58,7 @@ module _ (s : DiskState) (k m : ℕ) (own : IsImage s s.bytes) (fits : k + m ≤
     ]
   ]
 
-  -- while a range is written again, a crash leaves a file as before, but for that range
+  -- while a range is written again, a crash leaves a file as before, except in that range
   pub patched_image : (file : List ℕ) → IsImage (writing k m s) file → IsImage s (patch k m s.bytes file)
   patched_image file im = record {
     no_shorter = omega (arith, im.no_shorter, patch_length k m s.bytes file);
@@ -65,7 +66,7 @@ module _ (s : DiskState) (k m : ℕ) (own : IsImage s s.bytes) (fits : k + m ≤
     stays = λ i lt below out left. within_range file im i (omega (arith, lt, patch_length k m s.bytes file)) below out left;
   }
 
-  -- while a range is written that was being written, a crash leaves no other file
+  -- writing a range that was already being written lets a crash leave no other file
   pub rewritten : (bound : DiskState) → Within s (writing k m bound) → (file : List ℕ) → IsImage (writing k m s) file → IsImage (writing k m bound) file
   rewritten bound within file im =
       let as_before = within.leaves (patch k m s.bytes file) (patched_image file im) in

@@ -20,7 +20,7 @@ number_is : (a : List ℕ) → number_to w32 payload_limit a ≡ sized_by (nat_l
 unfolding number_to
 number_is a = refl
 
--- a number in four bytes is read from these alone
+-- a number in four bytes is read only from these
 number_front : (a b : List ℕ) (n : ℕ) → 4 ≤ length a → number_to w32 payload_limit a ≡ Ok (n, 4) → take 4 a ≡ take 4 b → 4 ≤ length b → number_to w32 payload_limit b ≡ Ok (n, 4)
 number_front a b n la e same lb =
     let long-a : nat_lt (length a) 4 ≡ false = le-ltb (length a) 4 la in
@@ -88,7 +88,7 @@ module _ {S C : Type 0} (p : Payload S C) where
       let same : (n == n) ≡ true = eq-eqb n n refl in
       rw (is.sized, fits, is.one, same, may) refl
 
-  -- it is read from its own bytes, and from no other
+  -- a record is read from its own bytes, and from no others
   own_bytes : (rest : List ℕ) (n : ℕ) (c : C) → IsPayload p rest c n → (gate : ℕ) (more : List ℕ) → IsPayload p (take (4 + n) rest ++ gate ∷ more) c n
   own_bytes rest n c is gate more =
       let long : 4 + n < length rest = omega (arith, is.room, length-drop 4 rest) in
@@ -104,7 +104,7 @@ module _ {S C : Type 0} (p : Payload S C) where
       }
 
   module _ (start : S) (file : List ℕ) where
-    -- a closed gate ends what stands
+    -- a closed gate ends the journal
     pub reached_rest : (s : S) (place : ℕ) → Reached p start file s place → get_or file place 0 ≡ 0 → AtRest p start file s place
     reached_rest s place reached closed = record {
       front = take place file;
@@ -114,7 +114,7 @@ module _ {S C : Type 0} (p : Payload S C) where
       leads = reached.leads;
     }
 
-    -- an open gate with no record behind it is damage
+    -- an open gate with no record after it is damage
     pub reached_damage : (s : S) (place : ℕ) → Reached p start file s place → get_or file place 0 ≢ 0 → record_read p s (drop (place + 1) file) ≡ None → found p start file ≡ Err (Damaged place)
     reached_damage s place reached shut none =
         let open_gate : (get_or file place 0 == 0) ≡ false = ne_eqb _ 0 shut in
@@ -155,7 +155,7 @@ module _ {S C : Type 0} (p : Payload S C) where
     pub not_this_version : 9 ≤ length file → begins name file ≡ true → has_version (drop 6 file) ≡ false → found p start file ≡ Err Version
     not_this_version long named other = let is : nat_lt (length file) 9 ≡ false = le-ltb (length file) 9 long in rw (is, named, other) refl
 
-    -- behind the name these two bytes stand, with which a journal may begin
+    -- the name is followed by these two bytes, with which a journal may begin
     begun_with : (v : List ℕ) → length (name ++ v) ≡ 8 → ((gate : ℕ) (more : List ℕ) → found p start ((name ++ v) ++ gate ∷ more) ≡ scan p (gate ∷ more) start 8 0)
         → 9 ≤ length file → begins name file ≡ true → begins v (drop 6 file) ≡ true → Reached p start file start 8
     begun_with v size leads long named of_version =

@@ -15,7 +15,7 @@ one_written : (l : List ℕ) (place : ℕ) → written_over l place (1 ∷ []) �
 one_written l place = refl
 
 module _ {S C : Type 0} (p : Payload S C) (start : S) where
-  -- what a closed gate ends
+  -- a closed gate ends the journal
   pub stands : (file : List ℕ) (s : S) (place : ℕ) → AtRest p start file s place → found p start file ≡ Ok s
   stands file s place rest = ap (found p start) rest.file_is ∙ rest.leads 0 rest.behind
 
@@ -28,7 +28,7 @@ module _ {S C : Type 0} (p : Payload S C) (start : S) where
         ap (take (place + 1)) (rest.file_is ∙ sym (append_assoc rest.front (0 ∷ []) rest.behind))
         ∙ take_at (rest.front ++ 0 ∷ []) rest.behind (place + 1) (omega (arith, length-append rest.front (0 ∷ []), rest.place_is))
 
-    -- what follows a closed gate counts for nothing
+    -- what follows a closed gate has no meaning
     pub same_to_gate : (f : List ℕ) → take (place + 1) f ≡ take (place + 1) file → AtRest p start f s place
     same_to_gate f same = record {
       front = rest.front;
@@ -38,7 +38,7 @@ module _ {S C : Type 0} (p : Payload S C) (start : S) where
       leads = rest.leads;
     }
 
-    -- the closed gate stands in each outcome of the first write
+    -- the closed gate is there in each outcome of the first write
     pub first_rest : (n : ℕ) (f : List ℕ) → IsImage (writing (place + 1) n (settled_at file)) f → AtRest p start f s place
     first_rest n f im = same_to_gate f (torn_image (place + 1) n file f (omega (arith, place_within)) im).before
 
@@ -85,7 +85,7 @@ module _ {S C : Type 0} (p : Payload S C) (start : S) where
       pub gate_within : (gate : ℕ) → place < length (with_gate gate)
       gate_within gate = omega (arith, length-append rest.front (gate ∷ record_bytes (0 ∷ tail)), rest.place_is)
 
-      -- behind an open gate the change counts, and a closed gate ends what stands
+      -- behind an open gate the change counts, and a closed gate ends the journal
       gate_read : (gate : ℕ) → gate ≢ 0 → found p start (with_gate gate) ≡ Ok (p.changed s c)
       gate_read gate shut = rest.leads gate (record_bytes (0 ∷ tail)) ∙ opened p s c payload spells gate 0 tail place shut
 
@@ -95,7 +95,7 @@ module _ {S C : Type 0} (p : Payload S C) (start : S) where
         | inr shut ↦ inr (gate_read gate shut)
       ]
 
-      -- in each outcome of the second write the record stands whole behind its gate
+      -- in each outcome of the second write the whole record is there behind its gate
       pub second_write : (f : List ℕ) → IsImage (writing place 1 (settled_at (with_gate 0))) f → StandsForOne p start s (p.changed s c) f
       second_write f im =
           let torn = torn_image place 1 (with_gate 0) f (omega (arith, gate_within 0)) im in
@@ -106,7 +106,7 @@ module _ {S C : Type 0} (p : Payload S C) (start : S) where
           sym (take-append-drop place f) ∙ (ap (λ (l : List ℕ). l ++ drop place f) (torn.before ∙ front_of 0) ∙ ap (λ (l : List ℕ). rest.front ++ l) behind) in
           subst (StandsForOne p start s (p.changed s c)) (sym whole) (either gate)
 
-      -- and the gate lies in it
+      -- and the gate is within the file
       pub second_long : (f : List ℕ) → IsImage (writing place 1 (settled_at (with_gate 0))) f → place < length f
       second_long f im = omega (arith, im.no_shorter, gate_within 0)
 
@@ -140,7 +140,7 @@ module _ {S C : Type 0} (p : Payload S C) (start : S) where
         leads = λ gate more. ap (found p start) (moved_front gate more) ∙ (rest.leads 1 (record_bytes (gate ∷ more)) ∙ opened p s c payload spells 1 gate more place (omega arith));
       }
 
-  -- At each moment of the four calls of a save a crash leaves a file that stands for what stood before, or after.
+  -- At each moment of the four calls of a save a crash leaves a file that stands for the state before it, or after.
   module _ (file : List ℕ) (s : S) (place : ℕ) (rest : AtRest p start file s place) (c : C) (payload : List ℕ) (spells : Spells p s c payload) where
     abbrev Either : List ℕ → Type 0
     Either = StandsForOne p start s (p.changed s c)
@@ -163,7 +163,7 @@ module _ {S C : Type 0} (p : Payload S C) (start : S) where
               goes_on Either _ old calls.mid new staging opening (λ f im. second_write file s place rest c payload spells f im)
         ]
 
-    -- and after them all is synced, and stands for what stands after
+    -- and after them all is synced, and the file stands for the state after the save
     pub save_done : (old new : List DiskState) → now old ≡ settled_at file → now new ≡ settled_at (written_over (written_over (now old).bytes (place + 1) (staged payload)) place (1 ∷ []))
         → (f : List ℕ) × (now new ≡ settled_at f) × AtRest p start f (p.changed s c) (place + length (staged payload))
     save_done old new settled is = (
@@ -176,7 +176,7 @@ module _ {S C : Type 0} (p : Payload S C) (start : S) where
   pub empty_leads : (gate : ℕ) (more : List ℕ) → found p start (header ++ gate ∷ more) ≡ scan p (gate ∷ more) start 8 0
   empty_leads gate more = let long : length (header ++ gate ∷ more) ≡ 9 + length more = length-append header (gate ∷ more) ∙ omega arith in rw (le-ltb (length (header ++ gate ∷ more)) 9 (omega (arith, long))) refl
 
-  -- of the older version too
+  -- also for the older version
   pub older_leads : (gate : ℕ) (more : List ℕ) → found p start ((name ++ older_version) ++ gate ∷ more) ≡ scan p (gate ∷ more) start 8 0
   older_leads gate more = let long : length ((name ++ older_version) ++ gate ∷ more) ≡ 9 + length more = length-append (name ++ older_version) (gate ∷ more) ∙ omega arith in rw (le-ltb (length ((name ++ older_version) ++ gate ∷ more)) 9 (omega (arith, long))) refl
 

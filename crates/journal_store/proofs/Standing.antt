@@ -1,4 +1,5 @@
--- What stands after a save that failed, until it is read anew; and while a new journal is made.
+-- What a store may hold after a save that failed, until the file is read again; and while a new
+-- journal is made.
 use Rattle.std.proofs.Common.{◌≡◌, ◌⊎◌, inl, inr, ⊎_elim, ℕ, ◌+◌, ◌≤◌, List, [], ◌∷◌, ◌++◌, length, drop, get_or, Result, Ok, Err, refl, sym, ◌∙◌, ap, subst, arith}
 use Rattle.std.specs.Int.{w32}
 use Rattle.std.proofs.lemmas.Bool.{cases_eq, cases_lt, cases_Bool}
@@ -21,17 +22,17 @@ module _ {B : Type 0} (taken : Reading B) where
   value_of : (a b : Saved B) → ◌≡◌ {A = Result (Saved B) StoreFault} (Ok a) (Ok b) → a ≡ b
   value_of a b e = cc
 
-  -- where each image stands for one of two, what is found is one of them
+  -- if each image stands for one of two states, the state that is found is one of them
   pub either_found : (s t v : Saved B) (state : DiskState) → Leaves (StandsForOne (payloads taken) nothing_saved s t) state → IsFound taken state v → (v ≡ s) ⊎ (v ≡ t)
   either_found s t v state each is = ⊎_elim (λ a. inl (value_of v s (sym is.stands ∙ a))) (λ b. inr (value_of v t (sym is.stands ∙ b))) (each is.file is.image)
 
-  -- a store that serves: each image stands for what is saved
+  -- a store that can be used: each image stands for what is saved
   pub serving : (states : List DiskState) (s t : Saved B) (place : ℕ) → IsSettled taken states s place → Leaves (StandsForOne (payloads taken) nothing_saved s t) (now states)
   serving states s t place serves file im =
       let same : file ≡ serves.file = settled_image serves.file file (subst (λ (b : DiskState). IsImage b file) serves.settled im) in
       inl (ap (found (payloads taken) nothing_saved) same ∙ stands (payloads taken) nothing_saved serves.file s place serves.rest)
 
-  -- after a save, also one that failed: each image stands for what stood before or after
+  -- after a save, also one that failed: each image stands for the state before or after
   pub after_save : (old new : List DiskState) (s t : Saved B) (place : ℕ) → IsSettled taken old s place → LeavesOnly (StandsForOne (payloads taken) nothing_saved s t) old new → Leaves (StandsForOne (payloads taken) nothing_saved s t) (now new)
   after_save old new s t place serves moments = ends (Leaves (StandsForOne (payloads taken) nothing_saved s t)) old new (serving old s t place serves) moments
 
@@ -64,6 +65,6 @@ module _ {S C : Type 0} (p : Payload S C) (start : S) where
   pub made : (bytes : List ℕ) → AtRest p start (written_over bytes 0 (header ++ 0 ∷ [])) start 8
   made bytes = empty_rest p start (drop 9 bytes)
 
-  -- of either version a file is read alike
+  -- files of both versions are read alike
   pub read_alike : (behind : List ℕ) → found p start (name ++ (older_version ++ behind)) ≡ found p start (name ++ (version ++ behind))
   read_alike behind = refl

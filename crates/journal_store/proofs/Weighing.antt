@@ -1,4 +1,4 @@
--- Cases of faults.
+-- Case distinctions on faults.
 use Rattle.std.proofs.Common.{◌≡◌, ◌≢◌, ◌⊎◌, inl, inr, ℕ, Result, Ok, Err, refl, sym, ◌∙◌}
 use Rattle.std.specs.Prelude.{IfErr}
 use Rattle.wire_bytes.specs.declared.wire_fault.WireFault.{WireFault}

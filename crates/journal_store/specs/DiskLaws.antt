@@ -1,4 +1,4 @@
--- What a store in a journal and a disk in memory keep of the laws of their traits. These lemmas need not be believed.
+-- A store in a journal and a disk in memory obey the laws of their traits. These lemmas need not be trusted.
 use Rattle.std.proofs.Common.{◌≡◌, ℕ, Bool, true, false, List, Option, refl, arith}
 use Rattle.std.specs.Prelude.{◌↔◌}
 use Rattle.wire_bytes.specs.Fields.{Reading}

@@ -15,11 +15,11 @@ name = 82 ∷ 66 ∷ 83 ∷ 84 ∷ 79 ∷ 82 ∷ []
 abbrev pub version : List ℕ
 version = 48 ∷ 50 ∷ []
 
--- 01, of a journal of before clients had names
+-- 01, in a journal from before clients had names
 abbrev pub older_version : List ℕ
 older_version = 48 ∷ 49 ∷ []
 
--- what a journal that is made begins with
+-- what a new journal begins with
 abbrev pub header : List ℕ
 header = name ++ version
 
@@ -27,53 +27,53 @@ header = name ++ version
 abbrev pub payload_limit : ℕ
 payload_limit = PAYLOAD_LIMIT
 
--- these bytes stand at the front of a file
+-- a file begins with these bytes
 abbrev pub begins : List ℕ → List ℕ → Bool
 begins [] file = true
 begins (x ∷ xs) [] = false
 begins (x ∷ xs) (y ∷ file) = (x == y) && begins xs file
 
--- what is behind a name begins with a version that is read
+-- what follows a name begins with a version that can be read
 abbrev pub has_version : List ℕ → Bool
 has_version behind = begins version behind || begins older_version behind
 
--- how a change is read, which changes may follow what stands, and what stands after them
+-- how a change is read, which changes may follow a state, and the state after them
 pub record Payload (S C : Type 0) : Type 0 where
   pub taken : Reading C
   pub may : S → C → Bool
   pub changed : S → C → S
 
 module _ {S C : Type 0} (p : Payload S C) where
-  -- the change that these bytes are, where they are one and no more
+  -- the change that these bytes are, if they are exactly one
   abbrev pub exact : ℕ → Result (C × ℕ) WireFault → Option C
   exact n (Ok r) = if r.1 == n then Some r.0 else None
   exact n (Err e) = None
 
-  -- what stands after a change that may follow, and how long its payload is
+  -- the state after a change that may follow, and how long its payload is
   abbrev pub followed : S → ℕ → Option C → Option (S × ℕ)
   followed s n None = None
   followed s n (Some c) = if p.may s c then Some (p.changed s c, n) else None
 
-  -- the same of a payload of so many bytes, where it fits in the file with a gate behind it
+  -- the same for a payload of this many bytes, if it fits in the file with a gate after it
   abbrev pub payload_read : S → List ℕ → ℕ → Option (S × ℕ)
   payload_read s body n = if nat_lt n (length body) then followed s n (exact n (p.taken (take n body))) else None
 
-  -- the same behind a length that was read
+  -- the same after a length that was read
   abbrev pub sized_read : S → List ℕ → Result (ℕ × ℕ) WireFault → Option (S × ℕ)
   sized_read s rest (Ok r) = payload_read s (drop 4 rest) r.0
   sized_read s rest (Err e) = None
 
-  -- the record behind an open gate: what stands after it and how long its payload is, or none where it is no record
+  -- the record behind an open gate: the state after it and how long its payload is, or nothing if it is no record
   unfoldable pub record_read : S → List ℕ → Option (S × ℕ)
   record_read s rest = sized_read s rest (number_to w32 payload_limit rest)
 
-  -- what is found behind a record, or the damage at its gate
+  -- what is found after a record, or the damage at its gate
   abbrev pub goes_to : ℕ → Option (S × ℕ) → (S → ℕ → Result S StoreFault) → Result S StoreFault
   goes_to place None next = Err (Damaged place)
   goes_to place (Some r) next = next r.0 r.1
 
-  -- What stands after the open records from here on, up to the first closed gate, which is a 0. The first byte stands at this place
-  -- of the file, and so many bytes belong to a record that was read.
+  -- The state after the open records from here on, up to the first closed gate, which is a 0. The first byte is at this
+  -- place of the file, and this many bytes belong to a record that was read.
   abbrev pub scan : List ℕ → S → ℕ → ℕ → Result S StoreFault
   scan [] s place skip = Err (Damaged place)
   scan (b ∷ rest) s place (suc skip) = scan rest s (suc place) skip
@@ -85,18 +85,18 @@ module _ {S C : Type 0} (p : Payload S C) where
       if nat_lt (length file) 9 then Err NotAStore
       else (if begins name file then (if has_version (drop 6 file) then scan (drop 8 file) start 8 0 else Err Version) else Err NotAStore)
 
-  -- a length, so many bytes that are one change, and more behind them
+  -- a length, this many bytes that are one change, and more after them
   pub record IsPayload (rest : List ℕ) (c : C) (n : ℕ) : Type 0 where
     pub sized : number_to w32 payload_limit rest ≡ Ok (n, 4)
     pub room : n < length (drop 4 rest)
     pub one : p.taken (take n (drop 4 rest)) ≡ Ok (c, n)
 
-  -- up to this place the file is a header and open records, after which this stands, and there the next gate is
+  -- up to this place the file is a header and open records, which lead to this state, and the next gate is there
   pub record Reached (start : S) (file : List ℕ) (s : S) (place : ℕ) : Type 0 where
     pub within : place < length file
     pub leads : (gate : ℕ) (rest : List ℕ) → found start (take place file ++ gate ∷ rest) ≡ scan (gate ∷ rest) s place 0
 
-  -- a file that stands for this, with its closed gate at this place; what follows the gate counts for nothing
+  -- a file that stands for this, with its closed gate at this place; what follows the gate has no meaning
   pub record AtRest (start : S) (file : List ℕ) (s : S) (place : ℕ) : Type 0 where
     pub front : List ℕ
     pub behind : List ℕ

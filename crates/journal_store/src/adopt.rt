@@ -1,4 +1,4 @@
-//! What a disk holds, read anew.
+//! Reading again what a disk holds.
 ghost use Rattle.std.specs.Prelude.{◌≡◌, ◌≤◌, ◌⊎◌, IsTrue, IfOk, IfErr, OnOk, []};
 ghost use Rattle.stable_store.specs.Stores.{HasRisen};
 ghost use Rattle.journal_store.specs.Disks.{now, settled_at, Runs};
@@ -13,7 +13,7 @@ use stable_store::{Saved, StoreFault};
 use std::alloc::Global;
 use wire_bytes::Wire;
 
-/// A disk of which no call failed may be adopted. Of what a failed one left off the disk the file tells nothing.
+/// Accepts only a disk of which no call failed: the file does not show what a failed call left off the disk.
 pub fn check_unfailed<D: Disk>(disk: &D) -> Result<(), StoreFault>
     ensures ok { OnOk result (D.failures disk.now ≡ 0) }
     ensures settled { IsTrue (D.honest disk.now)
@@ -26,8 +26,8 @@ pub fn check_unfailed<D: Disk>(disk: &D) -> Result<(), StoreFault>
     Ok(())
 }
 
-/// Syncs a disk and reads what its file stands for, and where its closed gate lies. What is read is on the disk,
-/// where no failed sync left anything.
+/// Syncs a disk and reads what its file stands for, and where its closed gate is. What is read is on the disk, if no
+/// failed sync left anything.
 pub fn read_anew<B: Wire, D: Disk>(
     alloc: Global,
     disk: &mut D,
@@ -50,7 +50,7 @@ pub fn read_anew<B: Wire, D: Disk>(
     find(alloc, &file, &nothing)
 }
 
-/// Syncs a disk and reads its file. What is read is on the disk, where no failed sync left anything.
+/// Syncs a disk and reads its file. What is read is on the disk, if no failed sync left anything.
 pub fn read_whole<D: Disk>(alloc: Global, disk: &mut D) -> Result<Vec<u8>, DiskFault>
     ensures runs { IsTrue (D.honest disk.old)
         → Runs (now (D.states disk.old)) (D.states disk.old) (D.states disk.new) }
@@ -61,7 +61,7 @@ pub fn read_whole<D: Disk>(alloc: Global, disk: &mut D) -> Result<Vec<u8>, DiskF
     ensures cause { HasCause (D.failures disk.old) (D.failures disk.new) result }
     ensures honest { D.honest disk.new ≡ D.honest disk.old }
 {
-    // what is read has to stand, whatever a crash leaves later
+    // what is read must stay, whatever a crash leaves later
     disk.sync()?;
     let len = disk.len()?;
     disk.read(alloc, 0, len)

@@ -1,4 +1,4 @@
-//! A record behind the last one of a journal.
+//! A record after the last one of a journal.
 ghost use Rattle.std.specs.Prelude.{◌≡◌, ◌≤◌, ◌<◌, ◌^◌, ◌++◌, IsTrue, IfOk, IfErr, OnOk};
 ghost use Rattle.std.specs.Prelude.{true, drop, length};
 ghost use Rattle.std.specs.Int.{to_be_bytes, w32};
@@ -25,8 +25,8 @@ const EMPTY: [u8; 9] = *b"RBSTOR02\0";
 /// How many bytes the length of a payload has.
 const LENGTH_BYTES: usize = 4;
 
-/// Writes an empty journal on a disk whose file has at most 9 bytes, synced, and syncs. Whatever a crash
-/// leaves at any moment opens as an empty store or is refused, and then it may be begun again.
+/// Writes an empty journal on a disk whose file has at most 9 bytes, synced, and syncs. Whatever a crash leaves at any
+/// moment opens as an empty store or is refused, and then it can be made again.
 pub fn begin<B: Wire, D: Disk>(disk: &mut D) -> Result<(), DiskFault>
     requires { IsTrue (D.honest disk.old) → (now (D.states disk.old)).most ≤ 9 }
     ensures any_moment { IsTrue (D.honest disk.old)
@@ -39,7 +39,7 @@ pub fn begin<B: Wire, D: Disk>(disk: &mut D) -> Result<(), DiskFault>
     put(disk, 0, &EMPTY)
 }
 
-/// The first bytes become this length.
+/// Replaces the first bytes by this length.
 fn set_length(bytes: &mut [u8], len: u32)
     requires { 4 ≤ length bytes.old }
     ensures { bytes.new ≡ to_be_bytes w32 len ++ drop 4 bytes.old }
@@ -61,8 +61,8 @@ fn record<B: Wire>(alloc: Global, change: &Change<B>) -> Result<Vec<u8>, AllocEr
     Ok(bytes)
 }
 
-/// Puts the record of a change behind the closed gate at a place, and opens the gate. Answers the place of
-/// the next gate, and notes what is known of the gate at the place, and of what lies behind it.
+/// Writes the record of a change behind the closed gate at a place, and opens the gate. Returns the place of the next
+/// gate, and notes what is known of the gate at the place, and of what follows it.
 pub fn append<B: Wire, D: Disk>(
     alloc: Global,
     disk: &mut D,

@@ -10,12 +10,11 @@ use std::alloc::Global;
 
 /// A disk with one file.
 ///
-/// Its laws hold where it is honest. A call that fails may have done any part of its work. What a crash
-/// may leave is known at each moment of a call, not at its end alone. A sync that fails may drop what it
-/// should have written, though a read gives it still: no later sync brings it back, but a write does
-/// that covers it.
+/// Its laws hold if it is honest. A call that fails may have done any part of its work. What a crash may leave is known
+/// for each moment of a call, not only for its end. A sync that fails may drop what it should have written, though a
+/// read still gives it: no later sync brings it back, but a write that covers it does.
 pub trait Disk: Drop {
-    /// Whether it keeps what it is told, which no call changes.
+    /// Whether it keeps what is written to it, which no call changes.
     ghost honest: { Self → Bool };
 
     /// The state at each moment so far, the newest first.
@@ -33,7 +32,7 @@ pub trait Disk: Drop {
         ensures cause { HasCause (failures self.old) (failures self.new) result }
         ensures honest { honest self.new ≡ honest self.old };
 
-    /// So many bytes from a place on, or those that there are.
+    /// This many bytes from a place on, or as many as there are.
     fn read(&mut self, alloc: Global, place: usize, len: usize) -> Result<Vec<u8>, DiskFault>
         ensures bytes { IsTrue (honest self.old) → IfOk result
             (λ v. v.items ≡ take len (drop place (now (states self.old)).bytes)) }
@@ -41,8 +40,8 @@ pub trait Disk: Drop {
         ensures cause { HasCause (failures self.old) (failures self.new) result }
         ensures honest { honest self.new ≡ honest self.old };
 
-    /// Writes bytes from a place on, over those that are there and past the end. Until a sync a crash may
-    /// leave anything in their place.
+    /// Writes bytes from a place on, over those that are there and past the end. Until a sync a crash may leave
+    /// anything in their place.
     fn write_at(&mut self, place: usize, bytes: &[u8]) -> Result<(), DiskFault>
         requires { IsTrue (honest self.old) → place ≤ length (now (states self.old)).bytes }
         ensures runs { IsTrue (honest self.old)
@@ -53,8 +52,8 @@ pub trait Disk: Drop {
         ensures cause { HasCause (failures self.old) (failures self.new) result }
         ensures honest { honest self.new ≡ honest self.old };
 
-    /// After Ok a crash leaves what was written since the last call of sync, and where no failed one left
-    /// anything, all that a read gives.
+    /// After Ok a crash leaves what was written since the last call of sync and, if no failed one left anything, all
+    /// that a read gives.
     fn sync(&mut self) -> Result<(), DiskFault>
         ensures runs { IsTrue (honest self.old)
             → Runs (now (states self.old)) (states self.old) (states self.new) }
@@ -63,7 +62,7 @@ pub trait Disk: Drop {
         ensures cause { HasCause (failures self.old) (failures self.new) result }
         ensures honest { honest self.new ≡ honest self.old };
 
-    /// How many calls failed. Where none did, no sync has left anything.
+    /// How many calls failed. If none did, no sync has left anything.
     fn failures(&self) -> u64
         ensures count { result ≡ failures self.now }
         ensures unfailed { IsTrue (honest self.now) → result ≡ 0

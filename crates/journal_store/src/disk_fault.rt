@@ -6,7 +6,7 @@ use stable_store::StoreFault;
 use std::alloc::AllocError;
 use thiserror::Error;
 
-/// Why a disk does not do what it is asked.
+/// Why a call of a disk failed.
 #[derive(Clone, Copy, Debug, Drop, PartialEq, Eq, Error)]
 pub enum DiskFault {
     #[error("the device failed")]

@@ -13,16 +13,16 @@ use wire_bytes::{Number, Wire, WireFault, take_u32};
 
 const NAME: [u8; 6] = *b"RBSTOR";
 
-/// What stands behind the name of a journal that is made.
+/// What follows the name of a new journal.
 const VERSION: [u8; 2] = *b"02";
 
-/// What stands there in a journal of before clients had names, which is read as any other.
+/// What follows it in a journal from before clients had names, which is read like any other.
 const OLDER_VERSION: [u8; 2] = *b"01";
 
 /// The greatest length of a payload.
 const PAYLOAD_LIMIT: u32 = 33_554_432;
 
-/// What stands in a new store.
+/// What a new store holds.
 pub fn nothing<B: Wire>(alloc: Global) -> Saved<B>
     ensures { result ≡ nothing_saved }
 {
@@ -34,8 +34,8 @@ pub fn nothing<B: Wire>(alloc: Global) -> Saved<B>
     }
 }
 
-/// What a file stands for, and the place of its closed gate. Full blocks of entries that another log has at the
-/// same places are shared with it.
+/// What a file stands for, and the place of its closed gate. Full blocks of entries that another log has at the same
+/// places are shared with it.
 pub fn find<B: Wire>(
     alloc: Global,
     file: &[u8],
@@ -68,7 +68,7 @@ pub fn find<B: Wire>(
     Ok((saved, place))
 }
 
-/// Whether a version that is read stands here.
+/// Whether these bytes begin with a version that can be read.
 fn has_version(behind: &[u8]) -> bool
     ensures { result ≡ has_version behind.now }
 {
@@ -125,14 +125,14 @@ fn change_at<B: Wire>(
     }
 }
 
-/// Whether a change may follow what stands, as `save` asks.
+/// Whether a change may follow what is saved, as `save` requires.
 pub fn may_follow<B: Wire>(saved: &Saved<B>, change: &Change<B>) -> bool
     ensures { result ≡ may_follow saved.now change.now }
 {
     keeps_within(saved, change) && goes_up(saved, change)
 }
 
-/// Whether no more entries are kept than stand, and the log stays within its limit.
+/// Whether no more entries are kept than there are, and the log stays within its limit.
 fn keeps_within<B: Wire>(saved: &Saved<B>, change: &Change<B>) -> bool
     ensures { result ≡ keeps_within saved.now change.now }
 {
@@ -140,7 +140,7 @@ fn keeps_within<B: Wire>(saved: &Saved<B>, change: &Change<B>) -> bool
     keep <= saved.log.len() && keep.value() as usize + change.entries().len() <= ENTRY_LIMIT
 }
 
-/// Whether boot and term do not sink, and a vote is for a node.
+/// Whether boot and term do not decrease, and a vote is for a node.
 fn goes_up<B: Wire>(saved: &Saved<B>, change: &Change<B>) -> bool
     ensures { result ≡ goes_up saved.now change.now }
 {
@@ -156,7 +156,7 @@ fn names_node(vote: Option<u8>) -> bool
     }
 }
 
-/// Makes a change that may follow, or none of it.
+/// Makes a change that may follow, or no part of it.
 pub fn follow<B: Wire>(saved: &mut Saved<B>, change: &Change<B>) -> Result<(), AllocError>
     requires { may_follow saved.old change.now ≡ true }
     ensures ok { OnOk result (saved.new ≡ changed saved.old change.now) }

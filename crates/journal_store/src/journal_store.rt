@@ -23,12 +23,12 @@ const END_LIMIT: usize = 1 << 63;
 /// The length of a journal in which nothing is saved.
 const EMPTY_LEN: usize = 9;
 
-/// A store in a journal on a disk. It is honest where its disk is.
+/// A store in a journal on a disk. It is honest if its disk is.
 #[derive(Drop)]
 pub struct JournalStore<B: Wire, D: Disk> {
     alloc: Global,
     disk: D,
-    /// What stands, as far as is known.
+    /// What the store holds, as far as is known.
     saved: Saved<B>,
     /// The place of the closed gate.
     end: usize,
@@ -54,8 +54,8 @@ impl<B: Wire, D: Disk> Model for JournalStore<B, D> {
 }
 
 impl<B: Wire, D: Disk> JournalStore<B, D> {
-    /// A new store on a disk whose file has at most 9 bytes, synced. Where it fails, or stops, the file
-    /// opens as an empty store or is refused, and the disk is dropped.
+    /// A new store on a disk whose file has at most 9 bytes, synced. If it fails or stops, the file opens as an empty
+    /// store or is refused, and the disk is dropped.
     pub fn make(alloc: Global, disk: D) -> Result<Self, StoreFault>
         requires { IsTrue (D.honest disk) → (now (D.states disk)).most ≤ 9 }
         ensures saved { IfOk result (λ j. (j.saved ≡ nothing_saved) × (j.broken ≡ false)) }
@@ -75,9 +75,9 @@ impl<B: Wire, D: Disk> JournalStore<B, D> {
         })
     }
 
-    /// A store of what the file of a disk stands for, once it is synced. `NotAStore`, `Version` and
-    /// `Damaged`, with the place of the gate, where that is found. `Device` where a call of the disk failed before:
-    /// what that left off the disk is not known from the file. Where it fails the disk is dropped.
+    /// A store of what the file of a disk stands for, once it is synced. `NotAStore`, `Version`, or `Damaged` with the
+    /// place of the gate, if the file says so. `Device` if a call of the disk failed before: the file does not show
+    /// what that left off the disk. If it fails the disk is dropped.
     pub fn adopt(alloc: Global, disk: D) -> Result<Self, StoreFault>
         ensures found { IsTrue (D.honest disk)
             → IfOk result (λ j. IsFound B.taken (now (D.states disk)) j.saved) }
@@ -102,10 +102,10 @@ impl<B: Wire, D: Disk> JournalStore<B, D> {
         })
     }
 
-    /// A store of what the file of a disk stands for, or a new one where the file is refused and has at most 9
-    /// bytes, in which nothing can be saved. So an empty journal is adopted, of whichever version it is. `Device`
-    /// where a call of the disk failed before, as `adopt` says. Where it fails the disk is dropped. Full blocks of
-    /// entries that another log has at the same places are one value in memory with it.
+    /// A store of what the file of a disk stands for, or a new one if the file is refused and has at most 9 bytes, in
+    /// which nothing can be saved; an empty journal of either version is therefore adopted. `Device` if a call of the
+    /// disk failed before, as for `adopt`. If it fails the disk is dropped. Full blocks of entries that another log has
+    /// at the same places are shared with it in memory.
     pub fn adopt_or_make(alloc: Global, disk: D, beside: &Log<B>) -> Result<Self, StoreFault>
         ensures opened { IsTrue (D.honest disk)
             → IfOk result (λ j. IsOpened B.taken (now (D.states disk)) j.saved) }
@@ -139,7 +139,7 @@ impl<B: Wire, D: Disk> JournalStore<B, D> {
         }
     }
 
-    /// Its disk. Where nothing is to be mended, whatever a crash now leaves stands for what is saved.
+    /// Its disk. If nothing is to be mended, whatever a crash now leaves stands for what is saved.
     pub fn disk(&self) -> &D
         ensures value { result.now ≡ self.now.disk }
         ensures sound { IsTrue (D.honest self.now.disk) → self.now.broken ≡ false
@@ -162,7 +162,7 @@ impl<B: Wire, D: Disk> JournalStore<B, D> {
         &self.saved.log
     }
 
-    /// Gives the disk back, its file as it stands.
+    /// Returns the disk, with its file as it is.
     pub fn into_disk(self) -> D
         ensures { result ≡ self.disk }
     {
@@ -170,7 +170,7 @@ impl<B: Wire, D: Disk> JournalStore<B, D> {
     }
 }
 
-/// Device comes with a failed call of the disk, and from any error on until `again` answers Ok.
+/// Device is returned after a failed call of the disk, and after any error until `again` returns Ok.
 impl<B: Wire, D: Disk> Stable<B> for JournalStore<B, D> {
     ghost use Rattle.std.specs.Prelude.{◌≡◌, false, true, IsTrue, IfErr, OnErr, OnOk};
     ghost use Rattle.stable_store.specs.Stores.{IsAllowed, IsDone, MayBecome, MayFollow, Serves};
@@ -193,9 +193,8 @@ impl<B: Wire, D: Disk> Stable<B> for JournalStore<B, D> {
         Ok(self.saved.copy(self.alloc)?)
     }
 
-    /// Two writes, each with the sync behind it. Whatever a crash leaves at any moment of the call stands
-    /// for what was saved before it or for what is saved after it. A store that is to be mended asks
-    /// nothing of its disk.
+    /// Two writes, each followed by a sync. Whatever a crash leaves at any moment of the call stands for what was saved
+    /// before it or for what is saved after it. A store that is to be mended does not call its disk.
     fn save(&mut self, change: &Change<B>) -> Result<(), StoreFault>
         requires { Serves (condition D.honest D.failures self.old)
             → MayFollow self.old.saved change.now }
@@ -215,7 +214,7 @@ impl<B: Wire, D: Disk> Stable<B> for JournalStore<B, D> {
         ensures condition { MayBecome result (condition D.honest D.failures self.old)
             (condition D.honest D.failures self.new) }
     {
-        // nothing is known of a disk that is not honest, so what an honest one implies is looked at
+        // nothing is known of a disk that is not honest, so what an honest one guarantees is checked
         if self.known.is_broken() || self.end >= END_LIMIT || !may_follow(&self.saved, change) {
             return Err(StoreFault::Device);
         }
@@ -226,16 +225,16 @@ impl<B: Wire, D: Disk> Stable<B> for JournalStore<B, D> {
             self.end,
             change,
         )?;
-        // the new gate is on the disk, closed, and the change is still to be made in memory
+        // the new gate is on the disk, closed, and the change must still be made in memory
         self.known = Known::ToGate;
         follow(&mut self.saved, change)?;
         self.known = Known::All;
         Ok(())
     }
 
-    /// Writes again what a failed call may have left off the disk, as it is read, and reads the file anew once it is
-    /// synced. Whatever a crash leaves at any moment of the call stands for one of those that might have stood
-    /// before it.
+    /// Writes again, as it is read, what a failed call may have left off the disk, and reads the file again once it is
+    /// synced. Whatever a crash leaves at any moment of the call stands for one of the states that were possible before
+    /// it.
     fn again(&mut self) -> Result<(), StoreFault>
         ensures any_moment { IsTrue (D.honest self.old.disk)
             → LeavesOnly (StandsForAny B.taken (may_stand B.taken D.states self.old))

@@ -3,19 +3,19 @@ ghost use Rattle.std.specs.Prelude.{◌≡◌};
 ghost use Rattle.journal_store.specs.Serving.{after_error, is_broken};
 
 /// What of a journal is known to be on the disk. A sync that fails may drop what was written, and a later one that
-/// answers Ok does not bring that back, so what is not known is written again before a sync is believed.
+/// returns Ok does not bring that back, so what is not known is written again before a sync is believed.
 #[derive(Clone, Copy, Debug, Drop, PartialEq, Eq)]
 pub enum Known {
     /// All of it.
     All,
-    /// All up to the closed gate, but not what lies behind it.
+    /// All up to the closed gate, but not what follows it.
     ToGate,
-    /// All but the gate, which may be open or closed.
+    /// All except the gate, which may be open or closed.
     ButGate,
 }
 
 impl Known {
-    /// Whether an error was met that nothing has mended.
+    /// Whether there was an error that nothing has mended.
     pub fn is_broken(self) -> bool
         ensures { result ≡ is_broken self }
     {

@@ -1,10 +1,10 @@
-//! That journals of both versions are read alike.
+//! Journals of both versions are read alike.
 ghost use Rattle.journal_store.specs.Versions.{AreReadAlike};
 
 use wire_bytes::Wire;
 
-/// A file stands for the same, or is refused in the same way, whichever version is behind its name. So a journal
-/// of the older one goes on as it is, and takes each change that one of the newer takes.
+/// A file stands for the same, or is refused in the same way, whichever version follows its name. A journal of the
+/// older version therefore goes on as it is, and accepts each change that one of the newer accepts.
 pub fn both_versions_are_read_alike<B: Wire>()
     ensures { AreReadAlike B.taken }
 {}

@@ -1,9 +1,8 @@
-//! A store that keeps what it saves over a crash: a journal in one file of a disk.
-//! Stands under fault_disks and file_disk.
+//! A store that keeps what it saves over a crash: a journal in one file of a disk. Used by fault_disks and file_disk.
 //!
-//! A change is written behind a closed gate and synced; then the gate is opened and synced. So whatever a
-//! crash leaves of what was not yet synced, the file stands for what was saved before the change or after
-//! it. `specs/Disks` says what a crash may leave, `specs/Journals` what a file stands for.
+//! A change is written behind a closed gate and synced; then the gate is opened and synced. Whatever a crash leaves of
+//! what was not yet synced, the file therefore stands for what was saved before the change or after it. `specs/Disks`
+//! says what a crash may leave, `specs/Journals` what a file stands for.
 #![tactic(auto)]
 
 mod adopt;

@@ -1,4 +1,4 @@
-//! A disk in memory, each of whose calls is done at once.
+//! A disk in memory, on which each call takes effect at once.
 ghost use Rattle.std.specs.Prelude.{◌≡◌, ◌≤◌, ◌∷◌, true, length, IfOk, OnOk, OnErr, IsTrue};
 ghost use Rattle.journal_store.specs.Disks.{now, settled_at, written_over};
 ghost use Rattle.journal_store.specs.Pasts.{had};
@@ -7,8 +7,8 @@ use crate::disk::Disk;
 use crate::disk_fault::DiskFault;
 use std::alloc::{AllocError, Global};
 
-/// A disk in memory, which stands as long as the program does. It keeps what its file held before each
-/// write, so it is for tests and for short files.
+/// A disk in memory, which lives as long as the program does. It keeps what its file held before each write, so it is
+/// for tests and for short files.
 #[derive(Drop)]
 pub struct MemoryDisk {
     alloc: Global,
@@ -51,7 +51,7 @@ fn over(alloc: Global, old: &[u8], place: usize, bytes: &[u8]) -> Result<Vec<u8>
     Ok(next)
 }
 
-/// Puts other bytes in the place of those that are there, which it keeps.
+/// Replaces the bytes by others, and keeps the old ones.
 fn replace(
     alloc: Global,
     bytes: &mut Vec<u8>,

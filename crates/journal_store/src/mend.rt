@@ -1,4 +1,4 @@
-//! What a failed call may have left off the disk, written again.
+//! Writing again what a failed call may have left off the disk.
 ghost use Rattle.std.specs.Prelude.{◌≡◌, ◌≤◌, ◌+◌, ◌⊎◌, IsTrue, IfOk, IfErr, OnOk, [], length};
 ghost use Rattle.journal_store.specs.Disks.{now, not_covered, writing, Runs};
 ghost use Rattle.journal_store.specs.Causes.{HasCause, IsMet};
@@ -12,11 +12,11 @@ use stable_store::{Saved, StoreFault};
 use std::alloc::Global;
 use wire_bytes::Wire;
 
-/// Makes all of a journal be on its disk, and reads what it stands for, and where its closed gate lies.
+/// Makes sure that all of a journal is on its disk, and reads what it stands for, and where its closed gate is.
 ///
-/// What may not be on the disk is written again as it is read, and synced. Were the gate written again while what lies
-/// behind it may be anything, a crash could leave it open; were what lies behind it written again while it may be
-/// open, the record there could be torn. So only that is written that may not be on the disk.
+/// What may not be on the disk is written again as it is read, and synced. If the gate were written again while what
+/// follows it may be anything, a crash could leave it open; if what follows it were written again while the gate may be
+/// open, the record there could be torn. So only what may not be on the disk is written.
 pub fn mend<B: Wire, D: Disk>(
     alloc: Global,
     disk: &mut D,
@@ -72,7 +72,7 @@ fn write_again<B: Wire, D: Disk>(
     }
 }
 
-/// Writes so many bytes from a place on over themselves.
+/// Writes this many bytes from a place on over themselves.
 fn rewrite<D: Disk>(alloc: Global, disk: &mut D, place: usize, size: usize) -> Result<(), DiskFault>
     requires { IsTrue (D.honest disk.old)
         → place + size ≤ length (now (D.states disk.old)).bytes }

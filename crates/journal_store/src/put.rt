@@ -1,4 +1,4 @@
-//! A write and the sync behind it.
+//! A write and the sync after it.
 ghost use Rattle.std.specs.Prelude.{◌≡◌, ◌≤◌, ◌<◌, ◌^◌, IsTrue, OnOk, true, [], ◌∷◌, length};
 ghost use Rattle.journal_store.specs.Disks.{now, not_covered, writing, written_over};
 ghost use Rattle.journal_store.specs.Disks.{Gated, IsGated, IsPut, Runs};
@@ -9,7 +9,7 @@ use crate::disk::Disk;
 use crate::disk_fault::DiskFault;
 use crate::known::Known;
 
-/// Writes bytes and syncs. All is synced then, where the write covers what failed syncs left.
+/// Writes bytes and syncs. All is synced then, if the write covers what failed syncs left.
 pub fn put<D: Disk>(disk: &mut D, place: usize, bytes: &[u8]) -> Result<(), DiskFault>
     requires { IsTrue (D.honest disk.old) → place ≤ length (now (D.states disk.old)).bytes }
     ensures runs { IsTrue (D.honest disk.old)
@@ -28,9 +28,9 @@ pub fn put<D: Disk>(disk: &mut D, place: usize, bytes: &[u8]) -> Result<(), Disk
     disk.sync()
 }
 
-/// Writes bytes behind the gate at a place and syncs; then opens the gate and syncs. Were the gate opened
-/// before the bytes are synced, a crash could leave an open gate with no record behind it. Notes what is known to
-/// be on the disk, up to the gate that is opened.
+/// Writes bytes behind the gate at a place and syncs; then opens the gate and syncs. If the gate were opened before the
+/// bytes are synced, a crash could leave an open gate with no record after it. Notes what is known to be on the disk,
+/// up to the gate that is opened.
 pub fn put_behind_gate<D: Disk>(
     disk: &mut D,
     known: &mut Known,

@@ -1,4 +1,4 @@
--- Lists of which a beginning came.
+-- Lists of which a first part came.
 use Rattle.std.proofs.Common.{◌≡◌, ℕ, ◌+◌, ◌<◌, ◌≤◌, Bool, true, false, ◌&&◌, if◌then◌else◌, List, [], ◌∷◌, Option, Some, None, length, take, drop, get_or, refl, ap, sym, subst, ◌∙◌, arith, drop-cons, add-one, length-take}
 use Rattle.std.proofs.lemmas.List.{take_more}
 use Rattle.wire_bytes.specs.declared.origin.Origin.{Origin}
@@ -13,14 +13,14 @@ came_take_more place xs i d h lt =
     let n : place + length (take i xs) ≡ i + place = rw length-take (omega arith) in
     rw (take_more xs i d lt) (came_one_more place (take i xs) (get_or xs i d) h ∙ ap (λ p. (p, get_or xs i d) ∷ came place (take i xs) h) n)
 
--- the next of these bodies, and those behind it
+-- the next of these bodies, and those after it
 pub next_led : (next : History TowerBody → Option ℕ) (term : ℕ) (client : Origin) (k : Leading) (place : ℕ) (h : History TowerBody) (xs : List TowerBody) (i : ℕ) (d : TowerBody) → i < length xs
     → are_led next term client k place h (drop i xs)
     ≡ (may_bring term client k (next h) (get_or xs i d) && are_led next term client (behind k (get_or xs i d)) (place + 1) ((place, get_or xs i d) ∷ h) (drop (i + 1) xs))
 next_led next term client k place h xs i d lt = rw (add-one i, drop-cons xs i d) refl
 
--- where nothing came to the machine `before`, the first body and so many of the others came to it, and the leader keeps this behind them: whether
--- it may bring the others is whether it may bring those that are left
+-- if the machine `before` had an empty history, and the first body and this many of the others came to it, and the
+-- leader keeps this after them, then it may bring all the others exactly if it may bring those that are left
 abbrev pub Follows : {S X : Type 0} → (X → S → History TowerBody → Type 0) → (S → History TowerBody → Option ℕ) → ℕ → Origin → X → X → TowerBody → Leading → ℕ → List TowerBody → Type 0
 Follows {S} stands next term client before now first k i bodies =
     (s : S) → stands before s []

@@ -1,4 +1,4 @@
-//! The line that is to be claimed next, as a list of bodies is folded.
+//! The next line to be claimed, while a list of bodies is folded.
 ghost use Rattle.std.specs.Prelude.{◌≡◌, ℕ, Option};
 ghost use Rattle.machine_laws.specs.Runs.{After, History};
 ghost use Rattle.bouncer_tower.specs.Bodies.{within_limit};
@@ -7,12 +7,12 @@ use bouncer_tower::Layers;
 use machine_laws::Machine;
 use wire_bytes::LAST_NUMBER;
 
-/// A machine that tells which line is to be claimed next.
+/// A machine that knows the next line to be claimed.
 pub trait Claiming: Machine {
-    /// The number of the line that is to be claimed next behind a history.
+    /// The number of the next line to be claimed after a history.
     ghost next_claim: { Self.Setup → History Self.Command → Option ℕ };
 
-    /// Takes no memory.
+    /// Allocates nothing.
     fn next_claim(&self) -> Option<u64>
         ensures { After (Self.stands self.now) (λ s earlier. result ≡ next_claim s earlier) };
 }
@@ -27,7 +27,7 @@ impl Claiming for Layers {
     }
 }
 
-/// A number, where a claim may have it.
+/// A number, if a claim may have it.
 fn within_limit(number: Option<u64>) -> Option<u64>
     ensures { result ≡ within_limit number }
 {

@@ -1,4 +1,4 @@
-//! The layers behind a list that one leader brings.
+//! The layers after a list that one leader brings.
 ghost use Rattle.std.specs.Prelude.{◌≡◌, ◌∷◌, [], is_some, IfOk, IfSome, IsTrue};
 ghost use Rattle.machine_laws.specs.Runs.{came, run};
 ghost use Rattle.led_lists.specs.Led.{are_led, is_led, is_led_by, new_leader};
@@ -12,8 +12,8 @@ use machine_laws::{ApplyFault, Machine};
 use std::alloc::{AllocError, Global};
 use wire_bytes::{Number, Origin};
 
-/// The layers to which these bodies alone came, where they are a list that the leader of this term brings for this client;
-/// nothing where they are not.
+/// The layers to which only these bodies came, if they are a list that the leader of this term brings for this client;
+/// else nothing.
 pub fn fold_led(
     alloc: Global,
     setup: &Setup,
@@ -36,7 +36,7 @@ pub fn fold_led(
     }
 }
 
-/// Whether one leader brings these bodies. All of them come to the machine then, to which nothing came before.
+/// Whether one leader brings these bodies. If so, all of them have come to the machine, whose history was empty.
 fn all_led<M: Machine<Command = TowerBody> + Claiming>(
     machine: &mut M,
     bodies: &[TowerBody],
@@ -54,8 +54,8 @@ fn all_led<M: Machine<Command = TowerBody> + Claiming>(
     }
 }
 
-/// Whether the leader may bring these bodies behind its first one, which comes to a machine to which nothing came. All of
-/// them come to it then.
+/// Whether the leader may bring these bodies after its first one, which comes to a machine with an empty history. If
+/// so, all of them have come to it.
 fn led_behind<M: Machine<Command = TowerBody> + Claiming>(
     machine: &mut M,
     first: &TowerBody,

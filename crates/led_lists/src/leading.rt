@@ -1,4 +1,4 @@
-//! What a leader keeps of its sessions.
+//! What a leader keeps about its sessions.
 ghost use Rattle.std.specs.Prelude.{◌≡◌};
 ghost use Rattle.led_lists.specs.Led.{new_leader};
 
@@ -13,7 +13,7 @@ pub struct Leading {
 }
 
 impl Leading {
-    /// A new leader has no session, and opened none.
+    /// A new leader has no session, and has opened none.
     pub fn new() -> Leading
         ensures { result ≡ new_leader }
     {

@@ -1,6 +1,5 @@
-//! Lists of bodies that one leader brings, in one run of node 1 with nobody disturbing it.
-//! Stands under renewal and store_life.
-//! Promises that the fold of a list tells whether it is such a list, and stands behind all its bodies.
+//! Lists of bodies that one leader brings, in one run of node 1 that nothing interrupts. Used by renewal and
+//! store_life. Promises that the fold of a list shows whether it is such a list, and follows all its bodies.
 #![tactic(auto)]
 
 mod claiming;

@@ -1,4 +1,4 @@
-//! What a leader may bring next, and what it keeps then.
+//! What a leader may bring next, and what it keeps after it.
 ghost use Rattle.std.specs.Prelude.{◌≡◌, ◌&&◌, suc, nat_lt, if◌then◌else◌, Some, None};
 ghost use Rattle.session_fence.specs.declared.command.FenceCommand.TheVariants.{Opened};
 ghost use Rattle.led_lists.specs.Led.{behind_claim, behind_session, brought, is_blank, is_live};
@@ -21,7 +21,7 @@ pub struct Whose {
     pub client: Origin,
 }
 
-/// What the leader keeps behind a body, where this line is to be claimed next; nothing where it may not bring it.
+/// What the leader keeps after a body, where this is the next line to be claimed; nothing if it may not bring the body.
 pub fn brought(
     whose: &Whose,
     leading: Leading,
@@ -58,6 +58,7 @@ fn brought_claim(
 {
     match command {
         ClaimsCommand::Claim(id, number) => {
+            // any other claim would have no effect, so no leader brings one
             if is_live(leading.live, *id) && next == Some(number.value()) {
                 Some(leading)
             } else {
@@ -85,7 +86,7 @@ fn brought_session(
     }
 }
 
-/// The next session of the term, where none is live.
+/// What the leader keeps after it opens the next session of the term; nothing where one is live.
 fn opened(term: Number, leading: Leading, id: SessionId) -> Option<Leading>
     ensures { result ≡ if may_bring_session term leading (Opened id)
         then Some (behind_session leading (Opened id)) else None }
@@ -104,7 +105,7 @@ fn opened(term: Number, leading: Leading, id: SessionId) -> Option<Leading>
     })
 }
 
-/// No session, where this one is live.
+/// What the leader keeps after it shuts this session; nothing where it is not live.
 fn shut(leading: Leading, id: SessionId) -> Option<Leading>
     ensures { result ≡ if is_live leading.live id
         then Some (record { live = None; attempts = leading.attempts }) else None }
@@ -119,7 +120,7 @@ fn shut(leading: Leading, id: SessionId) -> Option<Leading>
     }
 }
 
-/// The live session with one line more, where the line is its next one.
+/// What the leader keeps after one more line of the live session; nothing where it is not the next.
 fn heard(leading: Leading, id: SessionId, number: Number) -> Option<Leading>
     ensures { result ≡ if is_next_line leading.live id number && nat_lt number number_limit
         then Some (record {

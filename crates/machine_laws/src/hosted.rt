@@ -24,7 +24,7 @@ pub trait Hosted: Machine {
     /// A line as it comes from upstream.
     type Line: Wire;
 
-    /// What a playback is asked of.
+    /// What a playback is requested for.
     type Target: Wire;
 
     /// A line of a playback.
@@ -48,7 +48,7 @@ pub trait Hosted: Machine {
     /// The body of a session that is shut.
     ghost shut: { SessionId → Self.Command };
 
-    /// The body of the line of a session with this place in it, that came at a moment.
+    /// The body of a session's line, by its number in the session and the moment at which it came.
     ghost heard: { SessionId → ℕ → ℕ → Self.Line → Self.Command };
 
     /// The body by which a session claims the line of this number.
@@ -57,44 +57,44 @@ pub trait Hosted: Machine {
     /// Who may bring a body.
     ghost source: { Self.Command → Source };
 
-    /// The number of the line that is to be claimed next, where a line is numbered and not claimed; none past 2^60.
+    /// The number of the next line to be claimed, where a line is numbered and not claimed; none past 2^60.
     ghost next_claim: { Self.Setup → History Self.Command → Option ℕ };
 
-    /// What is played of a target after a history.
+    /// What is played back for a target after a history.
     ghost playback: { Self.Setup → History Self.Command → Self.Target → List Self.Played };
 
     /// Where an effect goes.
     ghost class: { Self.Effect → Class Parts };
 
-    /// Takes no memory.
+    /// Allocates nothing.
     fn asked(origin: Origin, number: Number, at: Moment, action: Self::Action) -> Self::Command
         ensures { result ≡ asked origin number at action };
 
-    /// Takes no memory.
+    /// Allocates nothing.
     fn node_gone(node: u8, floor: Number) -> Self::Command
         ensures { result ≡ node_gone node floor };
 
-    /// What a new leader appends first. Takes no memory.
+    /// What a new leader appends first. Allocates nothing.
     fn blank() -> Self::Command
         ensures { result ≡ blank };
 
-    /// Takes no memory.
+    /// Allocates nothing.
     fn mark(made: Mark) -> Self::Command
         ensures { result ≡ mark made };
 
-    /// Takes no memory.
+    /// Allocates nothing.
     fn opened(id: SessionId) -> Self::Command
         ensures { result ≡ opened id };
 
-    /// Takes no memory.
+    /// Allocates nothing.
     fn shut(id: SessionId) -> Self::Command
         ensures { result ≡ shut id };
 
-    /// Takes no memory. The lines of a session are numbered from 1.
+    /// Allocates nothing. The lines of a session are numbered from 1.
     fn heard(id: SessionId, number: Number, at: Moment, line: Self::Line) -> Self::Command
         ensures { result ≡ heard id number at line };
 
-    /// Takes no memory.
+    /// Allocates nothing.
     fn claim(id: SessionId, number: Number) -> Self::Command
         ensures { result ≡ claim id number };
 
@@ -103,21 +103,21 @@ pub trait Hosted: Machine {
         ensures fits { Self.Command.fits body.now }
         ensures short { length (Self.Command.spelled body.now) ≤ body_limit };
 
-    /// Who may bring a body. Takes no memory.
+    /// Who may bring a body. Allocates nothing.
     fn source(body: &Self::Command) -> Source
         ensures { result ≡ source body.now };
 
-    /// The number of the line that is to be claimed next: the first that is numbered and not claimed, whichever
-    /// session is in force. Nothing where that number would pass 2^60. Takes no memory.
+    /// The number of the next line to be claimed: the first that is numbered and not claimed, whichever session is in
+    /// force. None if that number would pass 2^60. Allocates nothing.
     fn next_claim(&self) -> Option<Number>
         ensures { After (Self.stands self.now) (λ s earlier. result ≡ next_claim s earlier) };
 
-    /// What is played of a target; nothing of one that is not known. Nothing is emptied.
+    /// What is played back for a target; nothing for an unknown one. It empties nothing.
     fn playback(&self, target: &Self::Target) -> Result<Vec<Self::Played>, AllocError>
         ensures { Brings (Self.stands self.now) result (λ v. v.items)
             (λ s earlier. playback s earlier target.now) };
 
-    /// Where an effect goes. Takes no memory.
+    /// Where an effect goes. Allocates nothing.
     fn class(effect: &Self::Effect) -> Class<&Line>
         ensures { class_map (λ l. l.now) result ≡ class effect.now };
 }

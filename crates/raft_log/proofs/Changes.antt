@@ -1,4 +1,4 @@
--- Runs of terms: what they are of a part of a log, of one that grows, and that they and the bodies give the log.
+-- Runs of terms: those of a part of a log and of one that grows; and that the runs and the bodies give the log.
 use Rattle.std.proofs.Common.{◌≡◌, ◌≢◌, ℕ, zero, suc, ◌+◌, ◌-◌, ◌<◌, ◌≤◌, true, false, cond, eqb, leb, List, [], ◌∷◌, ◌++◌, map, length, take, drop, get_or, append-nil, drop-cons, Result, Ok, Err, Option, None, Some, ⊎_elim, refl, sym, ap, subst, ◌∙◌, arith, length-take, length-drop, eq-eqb}
 use Rattle.std.specs.Option.{unwrap_or, option_map}
 use Rattle.std.specs.List.{slice_get}
@@ -14,17 +14,17 @@ use Rattle.raft_log.specs.Logs.{last_after, term_at, entry_limit, standing}
 use Rattle.raft_log.proofs.Repairs.{term_at_index, standing_none}
 use Rattle.raft_log.specs.Runs.{goes_on, runs_behind, term_runs, last_of, last_run_of, last_run, Alternate, terms, runs_of, entries_from, entries_of, IsLog}
 
--- the first of these runs begins behind k
+-- the first of these runs begins after k
 abbrev pub BeginsBehind : ℕ → List Run → Type 0
 BeginsBehind k [] = Unit {0}
 BeginsBehind k (r ∷ rs) = k < r.first
 
--- each run begins behind the one before it
+-- each run begins after the one before it
 abbrev pub Rising : List Run → Type 0
 Rising [] = Unit {0}
 Rising (r ∷ rs) = BeginsBehind r.first rs × Rising rs
 
--- the first p runs begin at m or before it, and the next one behind it
+-- the first p runs begin at m or before it, and the next one after it
 abbrev pub Parted : ℕ → List Run → ℕ → Type 0
 Parted m [] p = Unit {0}
 Parted m (r ∷ rs) zero = m < r.first
@@ -40,7 +40,7 @@ rising o k [] = tt
 rising o k (t ∷ ts) =
     cond_both (goes_on o t) (runs_behind o (suc k) ts) (record { first = suc k; term = t } ∷ runs_behind (Some t) (suc k) ts) Rising (λ _. rising o (suc k) ts) (λ _. (begins (Some t) (suc k) ts (suc k) (omega arith), rising (Some t) (suc k) ts))
 
--- an entry of the same term goes on with the last run
+-- an entry of the same term continues the last run
 last_same : (s t : ℕ) (ts : List ℕ) → s ≡ t → last_of (Some s) ts ≡ last_of (Some t) ts
 last_same s t ts q = ap (λ (z : ℕ). last_of (Some z) ts) q
 
@@ -93,7 +93,7 @@ parted_new : (k m p : ℕ) (r : Run) (rs : List Run) → r.first ≡ suc k → k
 parted_new k m zero r rs f lt short h more = absurd (omega (arith, f, h))
 parted_new k m (suc p) r rs f lt short h more = ap (λ (z : List Run). r ∷ z) (more p h.1)
 
--- the runs of the first n terms are the first runs, up to those that begin behind n
+-- the runs of the first n terms are the first runs, up to those that begin after n
 pub runs-take : (o : Option ℕ) (k n m : ℕ) (ts : List ℕ) (p : ℕ) → m ≡ k + n → Parted m (runs_behind o k ts) p → runs_behind o k (take n ts) ≡ take p (runs_behind o k ts)
 runs-take o k zero m ts p e h = none_before k p (runs_behind o k ts) (begins o k ts k (omega arith)) (subst (λ (z : ℕ). Parted z (runs_behind o k ts) p) (omega (arith, e)) h)
 runs-take o k (suc n) m [] p e h = take_none p
@@ -114,7 +114,7 @@ runs-take o k (suc n) m (t ∷ ts) p e h =
     ∙ ap (take p) (sym is)))
     (cases_Bool (goes_on o t))
 
--- what a partition point says, by the list
+-- what a partition point means, by the list
 pub parted : (m : ℕ) (rs : List Run) (p : ℕ) → ((i : ℕ) (d : Run) → i < p → (get_or rs i d).first ≤ m) → ((i : ℕ) (d : Run) → p ≤ i → i < length rs → m < (get_or rs i d).first) → Parted m rs p
 parted m [] p below above = tt
 parted m (r ∷ rs) zero below above = above 0 r (omega arith) (omega arith)
@@ -154,7 +154,7 @@ last-run-at o (x ∷ []) (suc n) r e h = absurd (omega (arith, e))
 last-run-at o (x ∷ y ∷ rs) zero r e h = absurd (omega (arith, e))
 last-run-at o (x ∷ y ∷ rs) (suc n) r e h = last-run-at (Some x.term) (y ∷ rs) n r (omega (arith, e)) h
 
--- the first of these runs does not go on with this term
+-- the first of these runs does not continue this term
 abbrev pub BeginsOther : Option ℕ → List Run → Type 0
 BeginsOther o [] = Unit {0}
 BeginsOther o (r ∷ rs) = goes_on o r.term ≡ false
@@ -179,7 +179,7 @@ abbrev first_index : List Run → ℕ
 first_index [] = 1
 first_index (r ∷ rs) = r.first
 
--- one term more goes on with the last run, or begins another
+-- one more term continues the last run, or begins another
 added : (ts : List ℕ) (t : ℕ) (rs : List Run) → rs ≡ term_runs ts → term_runs (ts ++ t ∷ []) ≡ rs ++ (cond (goes_on (last_run rs) t) [] (record { first = suc (length ts); term = t } ∷ []))
 added ts t rs is =
     let new : List Run = record { first = suc (length ts); term = t } ∷ [] in
@@ -196,7 +196,7 @@ added-new ts t k rs is at other =
     ap (λ (n : ℕ). rs ++ record { first = n; term = t } ∷ []) at
     ∙ sym (added ts t rs is ∙ ap (λ (z : List Run). rs ++ z) (cond-false (goes_on (last_run rs) t) [] (record { first = suc (length ts); term = t } ∷ []) other))
 
--- what a call that can't fail has made
+-- what a call made that can't fail
 pub made : {T E P : Type 0} (r : Result T E) → IsOk r → OnOk r P → P
 made (Ok x) is h = h
 made (Err e) is h = absurd (true≢false (sym is))
@@ -269,7 +269,7 @@ module _ {B : Type 0} where
         limit = omega (arith, len, h.few);
       }
 
-  -- runs and bodies of a list are a log of it
+  -- a log whose runs and bodies are those of a list is that list
   pub log-view : (rs : List Run) (bs : List B) (log : List (Entry B)) → rs ≡ runs_of log → bs ≡ bodies log → entries_of rs bs ≡ log
   log-view rs bs log r b = (λ i. entries_of (r i) (b i)) ∙ given-back None 0 log
 
@@ -284,7 +284,7 @@ module _ {B : Type 0} where
   last_after_is t o [] h = h
   last_after_is t o (e ∷ es) h = last_after_is e.term (Some e.term) es refl
 
-  -- the term at an index is that of the last run that begins there or before it
+  -- the term at an index is that of the last run that begins at or before it
   pub term-by-runs : (log : List (Entry B)) (k : ℕ) (begun : List Run) (o : Option ℕ) → begun ≡ term_runs (take k (terms log)) → o ≡ last_run begun → unwrap_or o 0 ≡ term_at log k
   term-by-runs log k begun o b e =
       ap (λ (z : Option ℕ). unwrap_or z 0) (e ∙ (ap last_run b ∙ (last-run None 0 (take k (terms log)) ∙ ap (last_of None) (take-map (λ (x : Entry B). x.term) k log))))
@@ -300,7 +300,7 @@ module _ {B : Type 0} where
   entry-at log k j bs b e s h =
       subst (λ (n : ℕ). item log n ≡ Some (record { term = term_at log n; body = b })) (sym s) (entry_from 0 log j b (ap (λ (z : List B). slice_get z j) (sym e) ∙ h))
 
-  -- the runs of a log with entries behind its first ones
+  -- the runs of a log with entries after its first ones
   pub runs-behind : (log es : List (Entry B)) (k : ℕ) (kept begun : List Run) (o : Option ℕ) → k ≤ length log → kept ≡ term_runs (take k (terms log)) → o ≡ last_run kept
       → begun ≡ runs_behind o k (terms es) → kept ++ begun ≡ runs_of (take k log ++ es)
   runs-behind log es k kept begun o le is_kept is_last is_begun =
@@ -318,14 +318,14 @@ module _ {B : Type 0} where
       (λ i. take k (b i) ++ a i)
       ∙ (ap (λ (z : List B). z ++ bodies es) (take-map (λ (x : Entry B). x.body) k log) ∙ sym (map-append (λ (x : Entry B). x.body) (take k log) es))
 
-  -- a log with one entry more
+  -- a log with one more entry
   pub runs-more : (log : List (Entry B)) (e : Entry B) (rs : List Run) → rs ≡ term_runs (terms log ++ e.term ∷ []) → rs ≡ runs_of (log ++ e ∷ [])
   runs-more log e rs h = h ∙ ap term_runs (sym (map-append (λ (x : Entry B). x.term) log (e ∷ [])))
 
   pub bodies-more : (log : List (Entry B)) (e : Entry B) (bs more : List B) → bs ≡ bodies log → more ≡ bs ++ e.body ∷ [] → more ≡ bodies (log ++ e ∷ [])
   bodies-more log e bs more b m = m ∙ (ap (λ (z : List B). z ++ e.body ∷ []) b ∙ sym (map-append (λ (x : Entry B). x.body) log (e ∷ [])))
 
-  -- entries that are copied, one more
+  -- one more entry is copied
   pub copied-more : (log : List (Entry B)) (i j b : ℕ) (x : Entry B) → b ≡ i + j → b < length log → item log (suc b) ≡ Some x → take (suc j) (drop i log) ≡ take j (drop i log) ++ x ∷ []
   copied-more log i j b x e lt h =
       let n : length (drop i log) ≡ length log - i = length-drop i log in
@@ -346,7 +346,7 @@ module _ {B : Type 0} where
       ∙ (ap (λ (z : Entry B). cond (eqb (get_or log i e).term z.term) (suc (standing (drop (suc i) log) (drop (suc j) es))) 0) (sym is)
       ∙ ap (λ (t : ℕ). cond (eqb t e.term) (suc (standing (drop (suc i) log) (drop (suc j) es))) 0) (term_there log i e lt)))
 
-  -- one entry more stands
+  -- one more entry is already there
   pub stands-more : (log es : List (Entry B)) (i j m n : ℕ) (e : Entry B) → m ≡ suc i → n ≡ suc j → i < length log → j < length es → e ≡ get_or es j e → term_at log (suc i) ≡ e.term
       → standing (drop i log) (drop j es) ≡ suc (standing (drop m log) (drop n es))
   stands-more log es i j m n e im jn lt lt' is same =
@@ -354,7 +354,7 @@ module _ {B : Type 0} where
       ∙ (cond-true (eqb (term_at log (suc i)) e.term) (suc (standing (drop (suc i) log) (drop (suc j) es))) 0 (eq-eqb (term_at log (suc i)) e.term same)
       ∙ (ap (λ (k : ℕ). suc (standing (drop k log) (drop (suc j) es))) (sym im) ∙ ap (λ (k : ℕ). suc (standing (drop m log) (drop k es))) (sym jn)))
 
-  -- no more stands: another term, or the end of either
+  -- no more entries are there: another term, or one of the lists ends
   pub stands-other : (log es : List (Entry B)) (i j : ℕ) (e : Entry B) → i < length log → j < length es → e ≡ get_or es j e → term_at log (suc i) ≢ e.term → standing (drop i log) (drop j es) ≡ 0
   stands-other log es i j e lt lt' is other =
       stands log es i j e lt lt' is ∙ cond-false (eqb (term_at log (suc i)) e.term) (suc (standing (drop (suc i) log) (drop (suc j) es))) 0 (ne_eqb (term_at log (suc i)) e.term other)

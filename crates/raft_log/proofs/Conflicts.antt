@@ -59,7 +59,7 @@ module _ {B : Type 0} where
       (λ f. absurd (true≢false (sym (cond-false (eqb x.term e.term) (conflicts_within rest es c) true f) ∙ h)))
       (cases_Bool (eqb x.term e.term))
 
-  -- what stands up to an index stays where no entry conflicts up to it
+  -- the log up to an index is unchanged if no entry conflicts up to it
   pub repair-kept : (log : List (Entry B)) (prev k : ℕ) (es : List (Entry B)) → prev ≤ length log → k ≤ length log → conflicts_within (drop prev log) es (k - prev) ≡ false → take k (repair log prev es) ≡ take k log
   repair-kept log prev k es le within h =
       let front : length (take prev log) ≡ prev = omega (arith, length-take prev log) in

@@ -1,4 +1,4 @@
--- Lists as blocks: the item behind so many, the first ones, and one more block.
+-- Lists as blocks: the item after this many, the first ones, and one more block.
 use Rattle.std.proofs.Common.{◌≡◌, ℕ, zero, suc, ◌+◌, ◌-◌, ◌*◌, ◌/◌, ◌%◌, min, ◌<◌, ◌≤◌, List, [], ◌∷◌, ◌++◌, length, take, get_or, Some, All, refl, sym, ap, ◌∙◌, arith, append_assoc, length-append}
 use Rattle.std.specs.List.{slice_get, flat_map}
 use Rattle.std.proofs.Math.Seq.{take-append-add}
@@ -78,11 +78,11 @@ module _ {A : Type 0} where
   one-more full last =
       append-nil (blocks (full ++ last ∷ [])) ∙ (flat_map-append (λ (b : List A). b) full (last ∷ []) ∙ ap (λ (z : List A). blocks full ++ z) (append-nil last))
 
-  -- how long the list is that is seen
+  -- the length of the list that the blocks make
   pub seen-len : (full : List (List A)) (last v : List A) → joined full last ≡ v → AreBlocks full last → length v ≡ length full * 1024 + length last
   seen-len full last v e h = sym (ap (length {A = A}) e) ∙ joined-len full last h.are_full
 
-  -- the item behind so many, in a full block
+  -- the item after this many, in a full block
   pub get-full : (full : List (List A)) (last v : List A) (i : ℕ) (f g : List A) (x : A) → joined full last ≡ v → AreBlocks full last → i < length v → i / 1024 < length full
       → f ≡ get_or full (i / 1024) f → g ≡ f → x ≡ get_or g (i % 1024) x → slice_get v i ≡ Some x
   get-full full last v i f g x e h within lt is_f is_g is_x =
@@ -90,12 +90,12 @@ module _ {A : Type 0} where
       slice_get_read v (length v) i x refl within
       (is_x ∙ (ap (λ (z : List A). get_or z (i % 1024) x) (is_g ∙ is_f) ∙ (sym (at-full full last (i / 1024) (i % 1024) i f x h.are_full lt small (sym (div-add-mod' i 1024))) ∙ ap (λ (z : List A). get_or z i x) e)))
 
-  -- the item behind so many, in the last block
+  -- the item after this many, in the last block
   pub get-last : (full : List (List A)) (last v : List A) (i r : ℕ) (x : A) → joined full last ≡ v → AreBlocks full last → i < length v → i ≡ length full * 1024 + r → x ≡ get_or last r x → slice_get v i ≡ Some x
   get-last full last v i r x e h within is is_x =
       slice_get_read v (length v) i x refl within (is_x ∙ (sym (at-last full last i r x h.are_full is) ∙ ap (λ (z : List A). get_or z i x) e))
 
-  -- where the first so many end: behind so many full blocks, in this one
+  -- where the first items end: after this many full blocks, in this one
   pub record Cut (full : List (List A)) (last v : List A) (n shared : ℕ) (cut : List A) : Type 0 where
     pub few : n - shared * 1024 ≤ length cut
     pub small : n - shared * 1024 ≤ 1024

@@ -1,4 +1,5 @@
--- What the reading of a body behind its length answers, which inputs want memory for it, and what is written over a place.
+-- What the reading of a body after its length returns, which inputs need memory for it, and what is overwritten at a
+-- place.
 use Rattle.std.proofs.Common.{◌≡◌, ◌≢◌, ℕ, ◌+◌, Bool, true, false, ◌||◌, cond, eqb, List, ◌++◌, length, take, drop, Result, Ok, Err, is_ok, IsTrue, refl, sym, subst, ap, ◌∙◌, arith, append_assoc}
 use Rattle.std.proofs.lemmas.Bool.{eq-eqb}
 use Rattle.std.proofs.lemmas.List.{take_at, drop_at, length-append}
@@ -41,7 +42,7 @@ or_right : (a b : Bool) → IsTrue b → IsTrue (a || b)
 or_right true b h = refl
 or_right false b h = h
 
--- a body that wants memory, behind its length
+-- a body that needs memory, after its length
 pub measured_wants : {X : Type 0} (wants : Wants) (reading : Reading X) (input : List ℕ) (n k : ℕ) → body_length input ≡ Ok (n, k) → IsTrue (wants (drop k input)) → IsTrue (wants_measured wants reading input)
 measured_wants wants reading input n k h w = or_left (wants_next (body_length input) wants input) (is_ok (measured reading input)) (subst (λ (r : Result (ℕ × ℕ) WireFault). IsTrue (wants_next r wants input)) (sym h) w)
 
@@ -49,12 +50,12 @@ measured_wants wants reading input n k h w = or_left (wants_next (body_length in
 pub whole_wants : {X : Type 0} (wants : Wants) (reading : Reading X) (input : List ℕ) (x : X) (m : ℕ) → measured reading input ≡ Ok (x, m) → IsTrue (wants_measured wants reading input)
 whole_wants wants reading input x m e = or_right (wants_next (body_length input) wants input) (is_ok (measured reading input)) (ap is_ok e)
 
--- how long the spelling of a body is with its length
+-- the length of a body's spelling with its length field
 pub measured_length : {X : Type 0} (spelled : X → List ℕ) (x : X) → length (spelled_measured spelled x) ≡ 4 + length (spelled x)
 unfolding spelled_measured
 measured_length spelled x = omega (arith, length-append (to_be_bytes w32 (length (spelled x))) (spelled x), wide32.len (length (spelled x)))
 
--- four bytes behind a front are written over
+-- four bytes after a front are overwritten
 pub covered : (front four new rest : List ℕ) (place end : ℕ) → place ≡ length front → end ≡ place + length four → take place ((front ++ four) ++ rest) ++ (new ++ drop end ((front ++ four) ++ rest)) ≡ front ++ (new ++ rest)
 covered front four new rest place end at e =
     let whole : (front ++ four) ++ rest ≡ front ++ (four ++ rest) = append_assoc front four rest in

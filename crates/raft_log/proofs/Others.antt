@@ -1,8 +1,8 @@
--- The other nodes, by those that are left behind one.
+-- The other nodes, by those that remain after one.
 use Rattle.std.proofs.Common.{◌≡◌, ◌≢◌, ◌==◌, ◌++◌, Bool, true, false, if◌then◌else◌, append_assoc, append-nil, ℕ, suc, ◌+◌, ◌-◌, ◌<◌, ◌≤◌, List, [], ◌∷◌, sym, ap, ◌∙◌, arith}
 use Rattle.raft_log.specs.Lists.{range_from, without}
 
--- the numbers that are left behind this one, but for the own
+-- the numbers that remain after this one, without the node's own
 abbrev pub left : ℕ → ℕ → ℕ → List ℕ
 left own size last = without own (range_from (suc last) (size - last))
 
@@ -22,7 +22,7 @@ left-own own size last k all e h same =
     let yes : (k == own) ≡ true = grind arith in
     ap (λ (t : List ℕ). all ++ t) (sym (left-first own size last k e h ∙ ap (λ (b : Bool). if b then left own size k else k ∷ left own size k) yes))
 
--- none is left
+-- none remains
 pub left-none : (own size last : ℕ) (all : List ℕ) → size ≤ last → all ++ left own size last ≡ all
 left-none own size last all h =
     let none : size - last ≡ 0 = omega arith in

@@ -1,4 +1,4 @@
--- What an append leaves of a log, by the number of entries that stand already.
+-- What an append leaves of a log, by the number of entries that are already there.
 use Rattle.std.proofs.Common.{length-append, length-take, ◌≢◌, append-nil, false, get_or, take-append-drop, ◌<◌, ◌+◌, ◌≡◌, ℕ, zero, suc, ◌-◌, ◌≤◌, true, eqb, ltb, List, [], ◌∷◌, ◌++◌, length, take, drop, refl, sym, ap, ◌∙◌, arith, append_assoc, take-add, length-drop, ⊎_elim}
 use Rattle.std.proofs.lemmas.List.{take_all}
 use Rattle.std.proofs.lemmas.Bool.{cond_both, cases_Bool, cases_lt, lt-ltb, le-ltb, cond-true, cond-false}
@@ -67,7 +67,7 @@ module _ {B : Type 0} where
       absurd (h (omega arith) (omega arith) (omega arith)))
       (cases_Bool (eqb x.term e.term))
 
-  -- whether one of the first c conflicts, by how many stand already
+  -- whether one of the first c conflicts, by how many are already there
   pub conflicts_count : (log : List (Entry B)) (prev c : ℕ) (es : List (Entry B)) (count : ℕ) → count ≡ standing (drop prev log) es → count < length es → prev + count < length log → ltb count c ≡ conflicts_within (drop prev log) es c
   conflicts_count log prev c es count e few within =
       let short : count < length (drop prev log) = omega (arith, length-drop prev log) in
@@ -102,7 +102,8 @@ module _ {B : Type 0} where
       let e : k ≡ suc (k - 1) = omega arith in
       sym (ap (λ i. last_term (take i log)) e ∙ last_after_take 0 log (k - 1) d (omega arith))
 
-  -- what stays and what follows it: the whole log where all stand already, else the first ones stay
+  -- what stays and what follows it: the whole log where all entries are already there, else the
+  -- first ones stay
   pub repaired-whole : (log es : List (Entry B)) (prev count : ℕ) → count ≡ standing (drop prev log) es → count ≡ length es → take (length log) log ++ [] ≡ repair log prev es
   repaired-whole log es prev count e whole =
       append-nil (take (length log) log) ∙ (take_all (length log) log (omega arith) ∙ sym (repair_all log prev es (omega arith)))

@@ -1,4 +1,4 @@
--- Two values with one spelling are one value.
+-- Two values with one spelling are equal.
 use Rattle.std.proofs.Common.{◌≡◌, ℕ, List, [], ◌++◌, length, set, get_or, Result, Ok, sym, ap, ◌∙◌}
 use Rattle.std.proofs.lemmas.List.{set-get_or}
 use Rattle.wire_bytes.specs.declared.wire_fault.WireFault.{WireFault}
@@ -13,6 +13,6 @@ one_value {X} spelled fits taken codec a b fa fb same =
     let texts : taken (spelled a ++ []) ≡ taken (spelled b ++ []) = ap (λ (t : List ℕ). taken (t ++ [])) same in
     ap (λ (r : X × ℕ). r.0) (value_is (a, length (spelled a)) (b, length (spelled b)) (sym one ∙ (texts ∙ two)))
 
--- what stood at a place, put there again
+-- what was at a place, put there again
 pub put_again : {X : Type 0} (xs : List X) (i : ℕ) (d : X) → set xs i (get_or xs i d) ≡ xs
 put_again xs i d = set-get_or xs i d

@@ -55,16 +55,16 @@ module _ {B : Type 0} (new : Standing) (log : List (Entry B)) (messages : List (
         committed = (λ within. ap (λ (l : List (Entry B)). take old.commit l) sent-log, omega arith);
       }
 
--- a step by one definition is one by another that makes the same of that node
+-- two definitions that do the same to a node give the same step
 pub step-as : {B : Type 0} (f f' : Node B → Node B) (s : Standing) (log : List (Entry B)) (step : Step B) → ((sent : List (Message B)) → f (node_of s log sent) ≡ f' (node_of s log sent))
     → IsStep f s log step → IsStep f' s log step
 step-as f f' s log step same h = record { prepares = λ sent. h.prepares sent ∙ same sent; savable = h.savable; places = h.places; committed = h.committed }
 
--- a list of messages that stays is the same with none behind it
+-- a list of messages is unchanged if none are added
 pub node_still : {B : Type 0} (s : Standing) (log : List (Entry B)) (sent : List (Message B)) → node_of s log (sent ++ []) ≡ node_of s log sent
 node_still {B} s log sent = ap (λ (ms : List (Message B)). node_of s log ms) (append-nil sent)
 
--- a node that does not lead keeps no indexes but its commit
+-- a node that does not lead keeps no indexes except its commit
 pub within-following : {last commit : ℕ} {next matched : List ℕ} (role : Role) → is_leader role ≡ false → commit ≤ last → PlacesWithin last role commit next matched
 within-following role e h =
     record {
@@ -73,7 +73,7 @@ within-following role e h =
       match_within = λ t. absurd (true≢false (sym t ∙ e));
     }
 
--- what follows where a call has not failed
+-- what follows where a call did not fail
 pub ok_map : {A E : Type 0} {P Q : A → Type 0} (r : Result A E) → ((x : A) → P x → Q x) → IfOk r P → IfOk r Q
 ok_map (Ok x) f h = f x h
 ok_map (Err e) f h = tt

@@ -1,4 +1,4 @@
--- What an Append brings.
+-- What an Append contains.
 use Rattle.std.specs.Prelude.{ℕ, ◌+◌, ◌≤◌, List, length}
 use Rattle.raft_log.specs.declared.batch.TheConstants.{BATCH_LIMIT}
 use Rattle.raft_log.specs.declared.entry.Entry.{Entry}
@@ -11,7 +11,7 @@ pub record BatchParts (B : Type 0) : Type 0 where
   pub entries : List (Entry B)
   pub commit : ℕ
 
--- how many entries are sent or saved at once, and how many inputs are done together
+-- how many entries may be sent or saved at once, and how many inputs may be done together
 abbrev pub batch_limit : ℕ
 batch_limit = BATCH_LIMIT
 
@@ -21,6 +21,6 @@ module _ {B : Type 0} where
   batch prev_index prev_term entries commit =
       record { prev_index = prev_index; prev_term = prev_term; entries = entries; commit = commit }
 
-  -- entries that may be sent at once, behind this index
+  -- entries that may be sent at once, after this index
   abbrev pub MayBeSent : ℕ → List (Entry B) → Type 0
   MayBeSent prev_index entries = (length entries ≤ batch_limit) × (prev_index + length entries ≤ entry_limit)

@@ -7,11 +7,11 @@ abbrev pub block_size : ℕ
 block_size = BLOCK_SIZE
 
 module _ {A : Type 0} where
-  -- the items of the full blocks, and behind them those of the last one
+  -- the items of the full blocks, and after them those of the last one
   abbrev pub joined : List (List A) → List A → List A
   joined full last = flat_map (λ b. b) full ++ last
 
-  -- each full block is full, and the last one has no more
+  -- each full block is full, and the last one has no more items than that
   pub record AreBlocks (full : List (List A)) (last : List A) : Type 0 where
     pub are_full : All (λ b. length b ≡ block_size) full
     pub few : length last ≤ block_size

@@ -1,4 +1,4 @@
--- Bodies behind their length are a codec where the bodies are. These lemmas need not be believed.
+-- Bodies after their length are a codec where the bodies are. These lemmas need not be trusted.
 use Rattle.std.proofs.Common.{◌≡◌, ℕ, ◌+◌, ◌^◌, ◌≤◌, ◌⊎◌, inl, inr, Bool, true, false, cond, eqb, List, ◌++◌, length, take, drop, Result, Ok, Err, refl, sym, ap, ◌∙◌, arith, append_assoc}
 use Rattle.std.specs.Int.{w32, to_be_bytes}
 use Rattle.std.proofs.Math.Seq.{take-add}
@@ -15,7 +15,7 @@ use Rattle.wire_bytes.specs.Limits.{body_limit}
 pub length_codec : IsCodec (to_be_bytes w32) (λ n. n ≤ body_limit) body_length
 length_codec = number-codec w32 (2 ^ 32) body_limit wide32 (omega arith)
 
--- the outcome of a reading that gives this value, of so many bytes
+-- the outcome of a reading that gives this value, of this many bytes
 abbrev read : {X : Type 0} → X → ℕ → Result (X × ℕ) WireFault
 read x n = Ok (x, n)
 
@@ -52,7 +52,7 @@ ending-memory : {X : Type 0} (end : ℕ) (r : Result (X × ℕ) WireFault) → e
 ending-memory end (Ok r) e = absurd (kept_by r (eqb r.1 end) e)
 ending-memory end (Err d) e = cc
 
--- A value behind its length is a codec where the value is.
+-- A value after its length is a codec where the value is.
 pub measured-codec : {X : Type 0} (spelled : X → List ℕ) (fits : X → Type 0) (taken : Reading X) → IsCodec spelled fits taken → IsCodec (spelled_measured spelled) (FitsMeasured fits spelled) (measured taken)
 unfolding measured spelled_measured
 measured-codec {X} spelled fits taken codec = record {

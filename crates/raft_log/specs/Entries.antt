@@ -11,7 +11,7 @@ module _ {B : Type 0} where
   abbrev pub entry_of : ℕ × B → Entry B
   entry_of p = record { term = p.0; body = p.1 }
 
-  -- a term, and a body behind its length
+  -- a term, and a body after its length
   unfoldable pub spelled_entry : (B → List ℕ) → Entry B → List ℕ
   spelled_entry body e = spelled_number e.term ++ spelled_measured body e.body
 
@@ -23,6 +23,6 @@ module _ {B : Type 0} where
   unfoldable pub entry_taken : Reading B → Reading (Entry B)
   entry_taken body = through entry_of (both number (measured body))
 
--- an entry wants memory for its body alone
+-- an entry needs memory only for its body
 abbrev pub wants_entry : {B : Type 0} → Wants → Reading B → Wants
 wants_entry wants body = wants_both never number (wants_measured wants body)

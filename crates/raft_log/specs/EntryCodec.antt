@@ -1,4 +1,4 @@
--- Entries are a codec where their bodies are. This lemma need not be believed.
+-- Entries are a codec where their bodies are. This lemma need not be trusted.
 use Rattle.std.proofs.Common.{ℕ, List, ◌++◌, refl}
 use Rattle.wire_bytes.specs.Fields.{Reading, both}
 use Rattle.wire_bytes.specs.Codecs.{IsCodec, both-codec, through-codec}

@@ -11,17 +11,17 @@ module _ {A : Type 0} where
   item xs zero = None
   item xs (suc k) = slice_get xs k
 
-  -- the item at a place, or this one where there is none
+  -- the item at a place, or this one if there is none
   abbrev pub item_or : List A → ℕ → A → A
   item_or xs zero d = d
   item_or xs (suc k) d = get_or xs k d
 
-  -- with this item at a place, where there is one
+  -- the list with this item at a place, if it has that place
   abbrev pub with_item : List A → ℕ → A → List A
   with_item xs zero x = xs
   with_item xs (suc k) x = set xs k x
 
--- so many numbers from this one on
+-- this many numbers from this one on
 abbrev pub range_from : ℕ → ℕ → List ℕ
 range_from a zero = []
 range_from a (suc n) = a ∷ range_from (suc a) n

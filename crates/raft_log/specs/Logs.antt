@@ -3,17 +3,17 @@ use Rattle.std.specs.Prelude.{ℕ, zero, suc, ◌==◌, Bool, true, false, ◌&&
 use Rattle.raft_log.specs.declared.entry.Entry.{Entry}
 use Rattle.raft_log.specs.declared.log.TheConstants.{ENTRY_LIMIT}
 
--- how many entries a log has at most
+-- how many entries a log may have
 abbrev pub entry_limit : ℕ
 entry_limit = ENTRY_LIMIT
 
 module _ {B : Type 0} where
-  -- the term of the last entry, or this number where there is none
+  -- the term of the last entry, or this number if there is none
   abbrev pub last_after : ℕ → List (Entry B) → ℕ
   last_after t [] = t
   last_after t (e ∷ log) = last_after e.term log
 
-  -- the term of the last entry, 0 where there is none
+  -- the term of the last entry, 0 if there is none
   abbrev pub last_term : List (Entry B) → ℕ
   last_term log = last_after 0 log
 
@@ -29,13 +29,13 @@ module _ {B : Type 0} where
   abbrev pub agrees_at : List (Entry B) → ℕ → ℕ → Bool
   agrees_at log k t = k == 0 || (nat_le k (length log) && (term_at log k == t))
 
-  -- the entries over what follows the place before them: from the first conflict on they replace it
+  -- the entries written over what follows the place before them: from the first conflict on they replace it
   abbrev pub merged : List (Entry B) → List (Entry B) → List (Entry B)
   merged rest [] = rest
   merged [] (e ∷ es) = e ∷ es
   merged (x ∷ rest) (e ∷ es) = if x.term == e.term then x ∷ merged rest es else e ∷ es
 
-  -- an entry that conflicts (same index, other term) goes with all that follow, and missing entries are added
+  -- an entry that conflicts (same index, other term) is removed with all that follow, and missing entries are added
   abbrev pub repair : List (Entry B) → ℕ → List (Entry B) → List (Entry B)
   repair log prev entries = take prev log ++ merged (drop prev log) entries
 
@@ -46,7 +46,7 @@ module _ {B : Type 0} where
   conflicts_within (x ∷ rest) [] (suc c) = false
   conflicts_within (x ∷ rest) (e ∷ es) (suc c) = if x.term == e.term then conflicts_within rest es c else true
 
-  -- how many of the entries stand there already, up to the first that does not
+  -- how many of the entries are already there, up to the first that is not
   abbrev pub standing : List (Entry B) → List (Entry B) → ℕ
   standing [] es = 0
   standing (x ∷ rest) [] = 0

@@ -7,7 +7,7 @@ use Rattle.raft_log.specs.declared.role.Role.{Role}
 use Rattle.raft_log.specs.declared.role.Role.TheVariants.{Follower, Candidate, Leader}
 use Rattle.raft_log.specs.declared.node_state.Live.{Live}
 
--- what a node holds, and what it sent so far: Figure 2 of the paper of Raft, State
+-- what a node holds, and what it sent so far: "State" in Figure 2 of the Raft paper
 pub record Node (B : Type 0) : Type 0 where
   pub boot : ℕ
   pub term : ℕ
@@ -45,6 +45,7 @@ module _ {B : Type 0} where
   abbrev pub sending : Node B → List (Message B) → Node B
   sending s ms = record s { sent = s.sent ++ ms }
 
-  -- a larger term is taken, with no vote; its node follows, and what it led is over
+  -- a larger term is taken, with no vote; its node becomes a follower, and a session that it led is
+  -- over
   abbrev pub raised : Node B → ℕ → Node B
   raised s t = if nat_lt s.term t then record s { term = t; vote = None; role = Follower; leader = None; live = None } else s

@@ -1,4 +1,4 @@
--- Seven items are known by those that count. This lemma need not be believed.
+-- Seven items are determined by those within the size. This lemma need not be trusted.
 use Rattle.std.proofs.Common.{◌≡◌, ℕ, ◌-◌, List, ◌++◌, length, take, replicate, sym, ap, ◌∙◌, arith, take-append-drop, length-take}
 use Rattle.raft_log.specs.Peers.{IsPadded, padded}
 

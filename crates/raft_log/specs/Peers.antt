@@ -1,4 +1,4 @@
--- What a node keeps of each node of its group, and the allowed sizes of a group.
+-- What a node keeps about each node of its group, and the allowed sizes of a group.
 use Rattle.std.specs.Prelude.{◌≡◌, ℕ, ◌-◌, ◌⊎◌, Bool, false, List, ◌++◌, length, map, drop, replicate, nat_le}
 use Rattle.raft_log.specs.Votes.{majority}
 
@@ -6,18 +6,19 @@ use Rattle.raft_log.specs.Votes.{majority}
 abbrev pub IsGroupSize : ℕ → Type 0
 IsGroupSize n = (n ≡ 3) ⊎ ((n ≡ 5) ⊎ (n ≡ 7))
 
--- of each node, whether its vote came, the next index to send from, and the index up to which its log is known to be the same
+-- for each node, whether its vote came, the next index to send from, and the index up to which its log is known to
+-- match
 pub record PeerLists : Type 0 where
   pub size : ℕ
   pub voters : List Bool
   pub next : List ℕ
   pub matched : List ℕ
 
--- at start: no vote came, and nothing is known of any log
+-- at the start: no vote came, and nothing is known of any log
 abbrev pub no_peers : ℕ → PeerLists
 no_peers size = record { size = size; voters = replicate size false; next = replicate size 0; matched = replicate size 0 }
 
--- a majority's logs are known to be the same up to this index
+-- the logs of a majority are known to match up to this index
 abbrev pub majority_has : PeerLists → ℕ → Bool
 majority_has p index = majority p.size (map (λ m. nat_le index m) p.matched)
 

@@ -1,4 +1,4 @@
--- What a node does in its term, and what it knows by that.
+-- The position of a node in its term, and what it knows in it.
 use Rattle.std.specs.Prelude.{ℕ, Option, None}
 use Rattle.raft_log.specs.declared.role.Role.{Role}
 use Rattle.raft_log.specs.declared.role.Role.TheVariants.{Follower as FollowerRole, Candidate as CandidateRole, Leader as LeaderRole}
@@ -6,7 +6,7 @@ use Rattle.raft_log.specs.declared.node_state.Live.{Live}
 use Rattle.raft_log.specs.declared.position.Position.{Position}
 use Rattle.raft_log.specs.declared.position.Position.TheVariants.{Follower, Candidate, Leader}
 
--- the role that a position is
+-- the role of a position
 abbrev pub role_of : Position → Role
 role_of (Follower leader) = FollowerRole
 role_of Candidate = CandidateRole

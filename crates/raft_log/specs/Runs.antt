@@ -1,15 +1,15 @@
--- Runs: where the term changes from one entry to the next. They and the bodies say the whole log.
+-- Runs: where the term changes from one entry to the next. They and the bodies determine the whole log.
 use Rattle.std.specs.Prelude.{◌≡◌, ◌≢◌, ◌<◌, ◌≤◌, length, ℕ, suc, ◌==◌, Bool, false, List, [], ◌∷◌, Option, None, Some, map, if◌then◌else◌}
 use Rattle.raft_log.specs.declared.entry.Entry.{Entry}
 use Rattle.raft_log.specs.declared.run.Run.{Run}
 use Rattle.raft_log.specs.Logs.{entry_limit}
 
--- whether an entry of this term goes on with a run: the entry before it has the same term
+-- whether an entry of this term continues a run: the entry before it has the same term
 abbrev pub goes_on : Option ℕ → ℕ → Bool
 goes_on None t = false
 goes_on (Some s) t = s == t
 
--- the runs that begin with these terms, behind so many, the last of which is the first argument
+-- the runs that begin with these terms, after this many others, the last of which is the first argument
 abbrev pub runs_behind : Option ℕ → ℕ → List ℕ → List Run
 runs_behind last k [] = []
 runs_behind last k (t ∷ ts) = if goes_on last t then runs_behind last (suc k) ts else record { first = suc k; term = t } ∷ runs_behind (Some t) (suc k) ts
@@ -18,18 +18,18 @@ runs_behind last k (t ∷ ts) = if goes_on last t then runs_behind last (suc k) 
 abbrev pub term_runs : List ℕ → List Run
 term_runs ts = runs_behind None 0 ts
 
--- each run begins behind the one before it, in another term
+-- each run begins after the one before it, in another term
 abbrev pub Alternate : List Run → Type 0
 Alternate [] = Unit {0}
 Alternate (r ∷ []) = Unit {0}
 Alternate (r ∷ s ∷ rs) = (r.first < s.first) × (r.term ≢ s.term) × Alternate (s ∷ rs)
 
--- the last of these terms, or this one where there is none
+-- the last of these terms, or this one if there is none
 abbrev pub last_of : Option ℕ → List ℕ → Option ℕ
 last_of last [] = last
 last_of last (t ∷ ts) = last_of (Some t) ts
 
--- the term of the last of these runs, or this one where there is none
+-- the term of the last of these runs, or this one if there is none
 abbrev pub last_run_of : Option ℕ → List Run → Option ℕ
 last_run_of last [] = last
 last_run_of last (r ∷ rs) = last_run_of (Some r.term) rs
@@ -47,7 +47,7 @@ module _ {B : Type 0} where
   abbrev pub runs_of : List (Entry B) → List Run
   runs_of log = term_runs (terms log)
 
-  -- entries of these bodies, behind k whose last has term t, where these runs begin
+  -- entries of these bodies, after k whose last has term t, where these runs begin
   abbrev pub entries_from : ℕ → ℕ → List Run → List B → List (Entry B)
   entries_from k t rs [] = []
   entries_from k t [] (b ∷ bs) = record { term = t; body = b } ∷ entries_from (suc k) t [] bs

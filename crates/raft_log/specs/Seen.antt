@@ -1,4 +1,4 @@
--- What the code's state is as plain data.
+-- The code's state as plain data.
 use Rattle.std.specs.Prelude.{◌≡◌, List}
 use Rattle.raft_log.specs.declared.entry.Entry.{Entry}
 use Rattle.raft_log.specs.declared.message.Message.{Message}
@@ -32,6 +32,6 @@ module _ {B : Type 0} where
   abbrev pub seen : NodeState B → List (Message B) → Node B
   seen state sent = node_of state.standing state.log sent
 
-  -- with the same log, the standing becomes this one by a step that sends nothing
+  -- by a step that sends nothing, the standing becomes this one and the log is unchanged
   abbrev pub Becomes : (Node B → Node B) → Standing → List (Entry B) → Standing → Type 0
   Becomes step old log new = (sent : List (Message B)) → node_of new log sent ≡ step (node_of old log sent)

@@ -1,4 +1,4 @@
--- Steps that are prepared before they are saved, and stand only then.
+-- Steps that are prepared before they are saved, and take effect only then.
 use Rattle.std.specs.Prelude.{◌≡◌, ◌+◌, ◌≤◌, ℕ, suc, List, [], ◌++◌, length, take, All, IsTrue}
 use Rattle.raft_log.specs.declared.entry.Entry.{Entry}
 use Rattle.raft_log.specs.declared.message.Message.{Message}
@@ -12,11 +12,12 @@ use Rattle.raft_log.specs.Node.{Node, is_leader}
 use Rattle.raft_log.specs.Positions.{role_of}
 use Rattle.raft_log.specs.Seen.{node_of}
 
--- a next index is at most one behind the last entry
+-- a next index is at most one after the last entry
 abbrev pub IsNextWithin : ℕ → ℕ → Type 0
 IsNextWithin last next = (1 ≤ next) × (next ≤ suc last)
 
--- the commit is an index of a log that ends at this one, and so are a leader's matches; its next indexes are at most one behind it
+-- the commit is an index of a log that ends at this one, and so are a leader's matches; its next indexes are at most
+-- one after it
 pub record PlacesWithin (last : ℕ) (role : Role) (commit : ℕ) (next matched : List ℕ) : Type 0 where
   pub commit_within : commit ≤ last
   pub next_within : IsTrue (is_leader role) → All (IsNextWithin last) next
@@ -27,11 +28,11 @@ module _ {B : Type 0} where
   abbrev pub IsWithinLog : Standing → List (Entry B) → Type 0
   IsWithinLog s log = PlacesWithin (length log) (role_of s.position) s.commit s.peers.next s.peers.matched
 
-  -- the log once a step stands: so many entries stay, and its own follow them
+  -- the log once a step takes effect: this many entries stay, and the step's own follow them
   abbrev pub log_after : List (Entry B) → Step B → List (Entry B)
   log_after log step = take step.keep log ++ step.entries.items
 
-  -- the state once a step stands
+  -- the state once a step takes effect
   abbrev pub after : NodeState B → Step B → NodeState B
   after state step = record { standing = step.standing; log = log_after state.log step }
 
@@ -43,12 +44,13 @@ module _ {B : Type 0} where
     pub sends : step.messages.items ≡ messages
     pub limit : length log ≤ entry_limit
 
-  -- this is what comes of a standing and a log, and what is sent
+  -- the step gives what the definition makes of a standing and a log, and what it sends
   abbrev pub Prepares : (Node B → Node B) → Standing → List (Entry B) → Step B → Type 0
   Prepares f standing log step =
       (sent : List (Message B)) → node_of step.standing (log_after log step) (sent ++ step.messages.items) ≡ f (node_of standing log sent)
 
-  -- no more entries stay than stood, few follow, and they have room; the run is the same, and the term does not sink
+  -- no more entries are kept than there were, few are added, and there is room for them; the run is the same, and the
+  -- term does not decrease
   pub record IsSavable (standing : Standing) (log : List (Entry B)) (step : Step B) : Type 0 where
     pub kept : step.keep ≤ length log
     pub few : length step.entries.items ≤ batch_limit
@@ -56,16 +58,16 @@ module _ {B : Type 0} where
     pub boot : step.standing.boot ≡ standing.boot
     pub term : standing.term ≤ step.standing.term
 
-  -- where the indexes of a node are within its log, they are so once the step stands
+  -- where the indexes of a node are within its log, they still are once the step takes effect
   abbrev pub KeepsWithinLog : Standing → List (Entry B) → Step B → Type 0
   KeepsWithinLog standing log step = IsWithinLog standing log → IsWithinLog step.standing (log_after log step)
 
-  -- what was committed stays where it is, and the commit does not sink
+  -- committed entries are unchanged, and the commit does not decrease
   abbrev pub KeepsCommitted : Standing → List (Entry B) → Step B → Type 0
   KeepsCommitted standing log step =
       (standing.commit ≤ length log → take standing.commit (log_after log step) ≡ take standing.commit log) × (standing.commit ≤ step.standing.commit)
 
-  -- the step that a definition makes of a standing and a log, with what a node has to know of each step
+  -- the step that a definition makes from a standing and a log, with what a node must know about each step
   pub record IsStep (f : Node B → Node B) (standing : Standing) (log : List (Entry B)) (step : Step B) : Type 0 where
     pub prepares : Prepares f standing log step
     pub savable : IsSavable standing log step

@@ -3,7 +3,7 @@ use Rattle.std.specs.Prelude.{ℕ, zero, suc, ◌+◌, Bool, true, false, ◌&&�
 use Rattle.raft_log.specs.declared.entry.Entry.{Entry}
 use Rattle.raft_log.specs.Logs.{has_term}
 
--- how many nodes a set has; a set says of each node whether it is in it
+-- how many nodes a set has; a set says for each node whether it is in it
 abbrev pub tally : List Bool → ℕ
 tally [] = 0
 tally (true ∷ set) = suc (tally set)

@@ -6,11 +6,11 @@ use std::alloc::{AllocError, Global};
 use std::marker::Model;
 use wire_bytes::{Copied, Number, Wire, copied_all};
 
-/// How many entries are sent or saved at once, and how many inputs are done together.
-// 256 entries of 2,000 bytes are half a megabyte: one write on a disk and one message to each node.
+/// How many entries may be sent or saved at once, and how many inputs may be done together.
+// 256 entries of 2,000 bytes are half a megabyte: one write to a disk and one message to each node.
 pub const BATCH_LIMIT: usize = 256;
 
-/// What an Append brings: entries, the index before them with its term, and the sender's commit.
+/// What an Append contains: entries, the index before them with its term, and the sender's commit.
 ///
 /// At most [`BATCH_LIMIT`] entries, and none past index 1,000,000.
 #[derive(Drop)]

@@ -6,10 +6,10 @@ use std::marker::Model;
 use std::sync::Arc;
 use wire_bytes::{Copied, copied_all};
 
-/// How many items a block has. Of bodies a block is 8 KB of pointers, and a full log has 977 of them.
+/// How many items a block has. A block of bodies is 8 KB of pointers, and a full log has 977 of them.
 pub const BLOCK_SIZE: usize = 1024;
 
-/// So many items, which never change. All copies of a block share them.
+/// A full block of items, which never change. All copies of a block share them.
 #[derive(Drop)]
 pub struct Block<T: Copied> {
     items: Arc<Vec<T>, Global>,

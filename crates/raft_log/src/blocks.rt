@@ -11,7 +11,7 @@ use std::alloc::{AllocError, Global};
 use std::marker::Model;
 use wire_bytes::{Copied, Wire, copied_all};
 
-/// A list as blocks: full ones, which copies of it share, and behind them the last one, which grows.
+/// A list as blocks: full ones, which copies of it share, and after them the last one, which grows.
 #[derive(Drop)]
 pub struct Blocks<T: Copied> {
     full: Vec<Block<T>>,
@@ -46,7 +46,7 @@ impl<T: Copied> Blocks<T> {
         self.full.len() * BLOCK_SIZE + self.last.len()
     }
 
-    /// The item behind so many.
+    /// The item after this many.
     pub fn get(&self, before: usize) -> &T
         requires { before < length self.now }
         ensures { slice_get self.now before ≡ Some result.now }
@@ -70,7 +70,7 @@ impl<T: Copied> Blocks<T> {
         Ok(self.last.push(item)?)
     }
 
-    /// These items in the place of all that follow so many.
+    /// Replaces all that follow this many items by these.
     pub fn replace_behind(&mut self, keep: usize, items: Vec<T>) -> Result<(), AllocError>
         requires within { keep ≤ length self.old }
         requires limit { length self.old < number_limit }
@@ -81,13 +81,13 @@ impl<T: Copied> Blocks<T> {
         if closed <= keep && items.len() <= BLOCK_SIZE - (keep - closed) {
             return replace_tail(&mut self.last, keep - closed, items);
         }
-        // a block that is cut is made anew, since copies of this list may have it
+        // a block that is cut is copied, since copies of this list may have it
         let changed = self.first(keep)?;
         *self = changed.with_all(items)?;
         Ok(())
     }
 
-    /// The first so many. The full blocks among them are shared.
+    /// The first `count` items. The full blocks among them are shared.
     fn first(&self, count: usize) -> Result<Self, AllocError>
         requires { count ≤ length self.now }
         ensures { IfOk result (λ l. l ≡ take count self.now) }
@@ -104,7 +104,7 @@ impl<T: Copied> Blocks<T> {
         Ok(Blocks { full, last })
     }
 
-    /// With these items behind it.
+    /// The list with these items added.
     fn with_all(mut self, items: Vec<T>) -> Result<Self, AllocError>
         ensures { IfOk result (λ l. l ≡ self ++ items.items) }
     {
@@ -116,8 +116,8 @@ impl<T: Copied> Blocks<T> {
 }
 
 impl<B: Wire> Blocks<LoggedBody<B>> {
-    /// The full blocks from this one on that hold what another list has in its own are shared with it. Answers how
-    /// many full blocks there are.
+    /// Shares with another list the full blocks from this one on that have the same items in both. Returns how many
+    /// full blocks there are.
     pub fn share(&mut self, from: usize, other: &Self) -> Result<usize, AllocError>
         ensures { self.new ≡ self.old }
     {
@@ -134,7 +134,7 @@ impl<T: Copied> Copied for Blocks<T> {
     }
 }
 
-/// Makes the last of the full blocks of these items, and leaves none of them.
+/// Makes a full block of the items of the last one, which is then empty.
 fn close<T: Copied>(full: &mut Vec<Block<T>>, items: &mut Vec<T>) -> Result<(), AllocError>
     requires { length items.old.items ≡ block_size }
     ensures ok { OnOk result (full.new.items ≡ full.old.items ++ items.old.items ∷ []) }

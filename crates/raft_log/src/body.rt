@@ -7,8 +7,7 @@ use std::marker::Model;
 use std::sync::Arc;
 use wire_bytes::{BODY_LIMIT, Copied, Wire, WireFault, take_behind, take_u32};
 
-/// A body that may stand in a log: it has a spelling, of at most 65,536 bytes. All copies of it share
-/// one value in memory.
+/// A body that may be in a log: it has a spelling, of at most 65,536 bytes. All copies of it share one value in memory.
 #[derive(Drop)]
 pub struct LoggedBody<B: Wire> {
     body: Arc<B, Global>,
@@ -43,7 +42,7 @@ impl<B: Wire> LoggedBody<B> {
         &self.body
     }
 
-    /// Whether another body is the same, by what both are spelled as, which is put here.
+    /// Whether another body is the same. Their spellings, which are compared, are written to `texts`.
     pub fn is_same(&self, other: &Self, texts: &mut Vec<u8>) -> Result<bool, AllocError>
         ensures { IfOk result (λ same. same ≡ true → self.now ≡ other.now) }
     {
@@ -64,8 +63,8 @@ impl<B: Wire> Copied for LoggedBody<B> {
     }
 }
 
-/// A length in four bytes, and the body. The length is that of the body's spelling, else it is refused
-/// as Bad at its own place, once the body stands whole.
+/// A length in four bytes, and the body. The length must be that of the body's spelling, else it is refused as Bad at
+/// its own place, once the body was read.
 impl<B: Wire> Wire for LoggedBody<B> {
     ghost use Rattle.raft_log.specs.Spellings.{spelled_measured, FitsMeasured, measured};
     ghost use Rattle.raft_log.specs.Spellings.{wants_measured};
@@ -82,7 +81,7 @@ impl<B: Wire> Wire for LoggedBody<B> {
     #[tactic(auto, using(crate::proofs::Measures::measured_length))]
     fn put(&self, out: &mut Vec<u8>) -> Result<(), AllocError> {
         let start = out.len();
-        // the length is known once the body is spelled
+        // the length is known only after the body is written
         out.extend_from_slice(&[0; 4])?;
         let outcome = self.get().put(out);
         if outcome.is_err() {
@@ -107,7 +106,7 @@ impl<B: Wire> Wire for LoggedBody<B> {
     ghost is_codec = { measured-codec B.spelled B.fits B.taken B.is_codec };
 }
 
-/// Writes bytes over those at a place.
+/// Overwrites the bytes at a place.
 fn write_over(out: &mut Vec<u8>, place: usize, bytes: &[u8])
     requires { place + length bytes.now ≤ length out.old.items }
     ensures items { out.new.items ≡ written_over out.old.items place bytes.now }

@@ -30,7 +30,7 @@ impl<B: Wire> Copied for Entry<B> {
     }
 }
 
-/// The term, and the body behind its length.
+/// The term, and the body after its length.
 impl<B: Wire> Wire for Entry<B> {
     ghost use Rattle.raft_log.specs.Entries.{spelled_entry, FitsEntry, entry_taken, wants_entry};
     ghost use Rattle.raft_log.specs.EntryCodec.{entry-codec};

@@ -25,7 +25,7 @@ impl Model for GroupSize {
 }
 
 impl GroupSize {
-    /// This size, where a group may have it.
+    /// This size, if a group may have it.
     pub fn new(value: u8) -> Option<GroupSize>
         ensures value { IfSome result (λ size. size ≡ value) }
         ensures allowed { IsSome result ↔ IsGroupSize value }

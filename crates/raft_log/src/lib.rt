@@ -1,6 +1,6 @@
-//! The log that nodes agree on by Raft, what they send each other, and the state of a node.
-//! Stands under stable_store, election, replication, node_steps and raft_node, among others.
-//! Promises that a log keeps at most 1,000,000 entries, and is repaired as Figure 2 of the paper of Raft says.
+//! The log on which nodes agree by Raft, the messages between them, and the state of a node. Used by stable_store,
+//! election, replication, node_steps and raft_node, among others. Promises that a log keeps at most 1,000,000 entries,
+//! and is repaired as Figure 2 of the Raft paper says.
 #![tactic(auto)]
 
 mod batch;

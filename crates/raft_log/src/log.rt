@@ -14,8 +14,8 @@ use std::alloc::{AllocError, Global};
 use std::marker::Model;
 use wire_bytes::{Copied, Number, Wire, copied_all};
 
-/// How many entries a log has at most.
-// a log stays in memory, and so many lines take some 400 MB on three nodes
+/// How many entries a log may have.
+// a log stays in memory, and this many lines take some 400 MB on three nodes
 pub const ENTRY_LIMIT: usize = 1_000_000;
 
 /// A node's entries, the first at index 1 and at most 1,000,000. Index 0 has term 0.
@@ -50,7 +50,7 @@ impl<B: Wire> Log<B> {
         }
     }
 
-    /// The index of the last entry, 0 where there is none.
+    /// The index of the last entry, 0 if there is none.
     pub fn len(&self) -> Number
         ensures value { result ≡ length self.now }
         ensures limit { length self.now ≤ entry_limit }
@@ -58,7 +58,7 @@ impl<B: Wire> Log<B> {
         Number::new(self.bodies.len() as u64)
     }
 
-    /// Whether it has as many entries as a log may have.
+    /// Whether it is full.
     pub fn is_full(&self) -> bool
         ensures { result ≡ nat_le entry_limit (length self.now) }
     {
@@ -104,16 +104,16 @@ impl<B: Wire> Log<B> {
         (index, self.term_at(index))
     }
 
-    /// Whether the log reaches to an index and has this term there. At index 0, before all entries, it
-    /// always agrees. Logs that agree at an index are the same up to it: section 5.3 of the Raft paper.
+    /// Whether the log reaches to an index and has this term there. At index 0, before all entries, it always does.
+    /// Logs that agree at an index are the same up to it: section 5.3 of the Raft paper.
     pub fn agrees_at(&self, index: Number, term: Number) -> bool
         ensures { result ≡ agrees_at self.now index term }
     {
         index.value() == 0 || (index <= self.len() && self.term_at(index) == term)
     }
 
-    /// Whether a log that ends at this index, in this term, is at least as up to date as this one, as
-    /// section 5.4.1 of the Raft paper says: the later last term, or in the same the longer log.
+    /// Whether a log that ends at this index, in this term, is at least as up to date as this one, as section 5.4.1 of
+    /// the Raft paper says: the later last term wins, or in the same term the longer log.
     pub fn up_to_date(&self, index: Number, term: Number) -> bool
         ensures { result ≡ up_to_date term index (last_term self.now) (length self.now) }
     {
@@ -121,7 +121,7 @@ impl<B: Wire> Log<B> {
         own_term < term || (term == own_term && own_index <= index)
     }
 
-    /// Copies of so many entries behind an index, or of all that are there.
+    /// Copies of this many entries after an index, or of all that are there.
     pub fn copied_behind(&self, index: Number, count: usize) -> Result<Vec<Entry<B>>, AllocError>
         requires { index ≤ length self.now }
         ensures { IfOk result (λ v. v.items ≡ take count (drop index self.now)) }
@@ -139,7 +139,7 @@ impl<B: Wire> Log<B> {
         Ok(entries)
     }
 
-    /// How many of the entries stand behind an index already, up to the first that does not.
+    /// How many of the entries are already in the log after an index, up to the first that is not.
     pub fn standing(&self, prev: Number, entries: &[Entry<B>]) -> usize
         requires { prev ≤ length self.now }
         ensures value { result ≡ standing (drop prev self.now) entries.now }
@@ -158,8 +158,7 @@ impl<B: Wire> Log<B> {
         entries.len()
     }
 
-    /// Whether one of the first so many entries conflicts with what stands behind an index: the same
-    /// index, another term.
+    /// Whether one of the first `count` entries conflicts with what follows an index: the same index, another term.
     pub fn conflicts_within(&self, prev: Number, entries: &[Entry<B>], count: usize) -> bool
         requires { prev ≤ length self.now }
         ensures { result ≡ conflicts_within (drop prev self.now) entries.now count }
@@ -186,7 +185,7 @@ impl<B: Wire> Log<B> {
         add_term(&mut self.runs, index, term)
     }
 
-    /// Copies of entries in the place of all that follow an index.
+    /// Replaces all that follow an index by copies of entries.
     pub fn replace_from(&mut self, index: Number, entries: &[Entry<B>]) -> Result<(), AllocError>
         requires within { index ≤ length self.old }
         requires room { index + length entries.now ≤ entry_limit }
@@ -197,7 +196,7 @@ impl<B: Wire> Log<B> {
         self.put_behind(index, added)
     }
 
-    /// These entries in the place of all that follow an index.
+    /// Replaces all that follow an index by these entries.
     pub fn put_behind(&mut self, index: Number, entries: Vec<Entry<B>>) -> Result<(), AllocError>
         requires within { index ≤ length self.old }
         requires room { index + length entries.items ≤ entry_limit }
@@ -216,9 +215,9 @@ impl<B: Wire> Log<B> {
         replace_tail(&mut self.runs, kept, begun)
     }
 
-    /// How many entries stay where the log takes these behind an index, and which ones follow them, as
-    /// steps 3 and 4 of a receiver of AppendEntries say in Figure 2 of the Raft paper (section 5.3): the
-    /// first that conflicts goes with all behind it, missing ones are added.
+    /// How many entries stay when the log takes these after an index, and which ones follow them, as steps 3 and 4 of a
+    /// receiver of AppendEntries say in Figure 2 of the Raft paper (section 5.3): the first that conflicts is removed
+    /// with all after it, and missing ones are added.
     pub fn repaired(&self, prev: Number, entries: Vec<Entry<B>>) -> (Number, Vec<Entry<B>>)
         requires within { prev ≤ length self.now }
         requires room { prev + length entries.items ≤ entry_limit }
@@ -229,7 +228,7 @@ impl<B: Wire> Log<B> {
         ensures room { result.0 + length result.1.items ≤ entry_limit }
     {
         let count = self.standing(prev, &entries);
-        // an append that stands already leaves what follows it, which a late copy of it must not cut
+        // if all entries are already there, what follows them stays: a late copy of an append must not cut it
         if count == entries.len() {
             return (self.len(), Vec::new(*entries.allocator()));
         }
@@ -248,8 +247,8 @@ impl<B: Wire> Log<B> {
         self.put_behind(keep, rest)
     }
 
-    /// The full blocks of bodies from this one on that another log has at the same places are one value in memory
-    /// with it from now on. Answers how many full blocks there are.
+    /// Shares with another log the full blocks of bodies from this one on that are the same in both. Returns how many
+    /// full blocks there are.
     pub fn share(&mut self, from: usize, other: &Self) -> Result<usize, AllocError>
         ensures { self.new ≡ self.old }
     {

@@ -3,7 +3,7 @@ use crate::body::LoggedBody;
 use std::alloc::{AllocError, Global};
 use wire_bytes::{Copied, Number, Wire};
 
-/// What one node says to another.
+/// A message of one node to another.
 #[derive(Drop)]
 pub enum Kind<B: Wire> {
     /// A candidate asks for a vote, and says where its log ends.
@@ -16,7 +16,7 @@ pub enum Kind<B: Wire> {
     },
     /// A leader's entries.
     Append(Batch<B>),
-    /// Whether entries were taken, and up to which index; where not, the index that did not agree.
+    /// Whether entries were taken, and up to which index; if not, the index that did not agree.
     AppendReply {
         ok: bool,
         place: Number,
@@ -25,7 +25,7 @@ pub enum Kind<B: Wire> {
     Forward(LoggedBody<B>),
 }
 
-/// A message between nodes, each from 1 on, with the sender's term.
+/// A message between nodes, each numbered from 1, with the sender's term.
 ///
 /// Messages are moved as values and have no spelling.
 #[derive(Drop)]

@@ -14,11 +14,11 @@ pub struct Live {
     pub next: Number,
 }
 
-/// A node's own state but for its log. Boot, term and vote are saved, with the log; all else is as at
-/// start after a restart.
+/// A node's own state except its log. Boot, term and vote are saved, with the log; all else is as at the start after a
+/// restart.
 #[derive(Clone, Copy)]
 pub struct Standing {
-    /// Which run of the node it is.
+    /// The run of the node.
     pub boot: Number,
     pub term: Number,
     pub vote: Option<NodeId>,
@@ -28,7 +28,7 @@ pub struct Standing {
     /// The index up to which entries were applied.
     pub applied: Number,
     pub peers: Peers,
-    /// How many sessions this run had.
+    /// How many sessions this run has opened.
     pub attempts: Number,
 }
 
@@ -40,9 +40,8 @@ pub struct NodeState<B: Wire> {
 }
 
 impl<B: Wire> NodeState<B> {
-    /// The standing that a message of this term is handled in. A larger term is taken, with no vote; the
-    /// node follows, and a session that it led is over: section 5.1 of the Raft paper, and "All Servers"
-    /// in its Figure 2.
+    /// The standing in which a message of this term is handled. A larger term is taken, with no vote; the node becomes
+    /// a follower, and a session that it led is over: section 5.1 of the Raft paper, and "All Servers" in its Figure 2.
     pub fn raised(&self, term: Number) -> Standing
         ensures { Becomes (λ s. raised s term) self.now.standing self.now.log result }
     {

@@ -9,8 +9,8 @@ use std::alloc::{AllocError, Global};
 use std::marker::Model;
 use wire_bytes::Number;
 
-/// What a node keeps of each node of its group: whether its vote came, the next index to send to it, and
-/// the index up to which its log is known to be the own.
+/// What a node keeps about each node of its group: whether its vote came, the next index to send to it, and the index
+/// up to which its log is known to match.
 ///
 /// A clause sees a list of each, of the group's size; that of node 1 is the first.
 #[derive(Clone, Copy)]
@@ -55,7 +55,7 @@ impl Model for Peers {
 }
 
 impl Peers {
-    /// As at start: no vote came, and nothing is known of any log.
+    /// At the start: no vote came, and nothing is known of any log.
     pub fn new(size: GroupSize) -> Peers
         ensures { result ≡ no_peers size }
     {
@@ -89,7 +89,7 @@ impl Peers {
         self.next[node.value() as usize - 1]
     }
 
-    /// The index up to which a node's log is known to be the own, 0 past the group.
+    /// The index up to which a node's log is known to match, 0 past the group.
     pub fn match_of(self, node: NodeId) -> Number
         ensures { result ≡ item_or self.matched node 0 }
     {
@@ -107,7 +107,7 @@ impl Peers {
         peers
     }
 
-    /// With the vote of this node alone.
+    /// With the vote of this node only.
     pub fn only(self, node: NodeId) -> Peers
         ensures { result
             ≡ record self { voters = with_item (replicate self.size false) node true } }
@@ -139,7 +139,7 @@ impl Peers {
         peers
     }
 
-    /// As a new leader begins: it sends to each from this index on, and knows of no log that it is the same.
+    /// As a new leader begins: it sends to each from this index on, and knows of no log that it matches.
     pub fn leading(self, next: Number) -> Peers
         ensures { result ≡ record self {
           next = replicate self.size next;
@@ -177,7 +177,7 @@ impl Peers {
         majority(size, &self.voters[..size as usize])
     }
 
-    /// Whether more than half of the logs are known to be the own up to an index.
+    /// Whether more than half of the logs are known to match up to an index.
     pub fn majority_has(self, index: Number) -> bool
         ensures { result ≡ majority_has self index }
     {
@@ -199,7 +199,7 @@ fn filled(size: GroupSize, index: Number) -> [Number; 7]
     }
 }
 
-/// Whether more than half of the nodes are in a set, which says of each node whether it is in it.
+/// Whether more than half of the nodes are in a set, which says for each node whether it is in it.
 fn majority(size: u8, set: &[bool]) -> bool
     ensures { result ≡ majority size set.now }
 {

@@ -5,13 +5,13 @@ use crate::node_id::NodeId;
 use crate::node_state::Live;
 use crate::role::Role;
 
-/// What a node does in its term, and what it knows by that: a follower its leader, a leader its session.
+/// The position of a node in its term, and what it knows in it: a follower its leader, a leader its session.
 #[derive(Clone, Copy)]
 pub enum Position {
     /// The known leader is the sender of the last Append of the term.
     Follower(Option<NodeId>),
     Candidate,
-    /// The session is none until one is opened.
+    /// There is no session until one is opened.
     Leader(Option<Live>),
 }
 
@@ -26,7 +26,7 @@ impl Position {
         }
     }
 
-    /// The known leader, which a follower alone has.
+    /// The known leader; only a follower has one.
     pub fn leader(self) -> Option<NodeId>
         ensures { result ≡ leader_of self }
     {
@@ -37,7 +37,7 @@ impl Position {
         }
     }
 
-    /// The session with the server, which a leader alone has.
+    /// The session with the server; only a leader has one.
     pub fn live(self) -> Option<Live>
         ensures { result ≡ live_of self }
     {

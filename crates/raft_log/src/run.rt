@@ -21,7 +21,7 @@ impl Copied for Run {
     }
 }
 
-/// How many of the runs begin at an index or before it.
+/// How many of the runs begin at or before an index.
 pub fn begun_at(runs: &[Run], index: usize) -> usize
     ensures few { result ≤ length runs.now }
     ensures value { (terms : List ℕ) → runs.now ≡ term_runs terms
@@ -40,7 +40,7 @@ pub fn last_term(runs: &[Run]) -> Option<Number>
     }
 }
 
-/// Whether an entry of a term goes on with a run of this one.
+/// Whether an entry of a term continues a run of this one.
 fn goes_on(last: Option<Number>, term: Number) -> bool
     ensures { result ≡ goes_on last term }
 {
@@ -50,7 +50,7 @@ fn goes_on(last: Option<Number>, term: Number) -> bool
     }
 }
 
-/// Adds the term of one more entry, at this index. Where there is room for a run it can't fail.
+/// Adds the term of one more entry, at this index. If there is room for a run it can't fail.
 pub fn add_term(runs: &mut Vec<Run>, index: Number, term: Number) -> Result<(), AllocError>
     ensures ok { (terms : List ℕ) → runs.old.items ≡ term_runs terms → index ≡ suc (length terms)
         → OnOk result (runs.new.items ≡ term_runs (terms ++ term ∷ [])) }
@@ -63,7 +63,7 @@ pub fn add_term(runs: &mut Vec<Run>, index: Number, term: Number) -> Result<(), 
     Ok(runs.push(Run { first: index, term })?)
 }
 
-/// The runs that begin with entries behind so many, the last of which has this term.
+/// The runs of entries that come after this many others, the last of which has this term.
 pub fn begun_behind<B: Wire>(
     alloc: Global,
     last: Option<Number>,

@@ -7,7 +7,7 @@ use crate::body::LoggedBody;
 use std::alloc::AllocError;
 use wire_bytes::{Copied, Wire};
 
-/// The blocks from this one on that hold what the others hold at their places are shared with these.
+/// Shares the blocks from this one on that have the same items as the others at their places.
 #[tactic(auto, using(crate::proofs::Same::put_again))]
 pub fn share_each<B: Wire>(
     blocks: &mut Vec<Block<LoggedBody<B>>>,
@@ -24,7 +24,7 @@ pub fn share_each<B: Wire>(
     Ok(())
 }
 
-/// The block is the other one, where both hold the same.
+/// Shares the other block, if both have the same items.
 fn share_one<B: Wire>(
     block: &mut Block<LoggedBody<B>>,
     other: &Block<LoggedBody<B>>,

@@ -8,8 +8,7 @@ use crate::node_state::Standing;
 use std::alloc::{AllocError, Global};
 use wire_bytes::{Number, Wire};
 
-/// What a node comes to by an event, which is known before it stands: it is saved first, and what is sent
-/// leaves last.
+/// What an event does to a node, prepared before it takes effect: it is saved first, and its messages are sent last.
 #[derive(Drop)]
 pub struct Step<B: Wire> {
     pub standing: Standing,

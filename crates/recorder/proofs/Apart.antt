@@ -10,7 +10,7 @@ use Rattle.recorder.specs.InputReadings.{FitsEvent, text_of_event}
 use Rattle.recorder.proofs.Inputs.{one_event}
 use Rattle.recorder.proofs.Lines.{line_split}
 
--- Over bodies, their spelling and its limits
+-- Over bodies, with their spelling and limits
 module _ {B : Type 0} (spelled : B → List ℕ) (fits : B → Type 0) where
   first_fits : (e : Event B Parts (List ℕ)) (es : List (Event B Parts (List ℕ))) → FitEvents spelled fits (e ∷ es) → FitsEvent spelled fits e
   first_fits e es h = h 0 e (omega arith)
@@ -18,7 +18,7 @@ module _ {B : Type 0} (spelled : B → List ℕ) (fits : B → Type 0) where
   rest_fit : (e : Event B Parts (List ℕ)) (es : List (Event B Parts (List ℕ))) → FitEvents spelled fits (e ∷ es) → FitEvents spelled fits es
   rest_fit e es h = λ k d lt. h (suc k) d (omega (arith, lt))
 
-  -- texts that begin with an event's line each: the lines are the same, and what follows them
+  -- texts that each begin with an event's line: the lines are the same, and so is what follows them
   same_lines : (e f : Event B Parts (List ℕ)) (r s : List ℕ) → FitsEvent spelled fits e → FitsEvent spelled fits f → line_and spelled fits (e, r) ≡ line_and spelled fits (f, s)
       → (text_of_event spelled fits e ≡ text_of_event spelled fits f) × (r ≡ s)
   same_lines e f r s h k t =
@@ -27,7 +27,7 @@ module _ {B : Type 0} (spelled : B → List ℕ) (fits : B → Type 0) where
       let pair : (text_of_event spelled fits e, r) ≡ (text_of_event spelled fits f, s) = cc in
       (ap (λ (x : List ℕ × List ℕ). x.0) pair, ap (λ (x : List ℕ × List ℕ). x.1) pair)
 
-  -- no event's line begins this text
+  -- this text begins with no event's line
   abbrev Ends : List ℕ → Type 0
   Ends rest = (e : Event B Parts (List ℕ)) (more : List ℕ) → FitsEvent spelled fits e → line_and spelled fits (e, more) ≡ rest → ⊥
 
@@ -36,7 +36,8 @@ module _ {B : Type 0} (spelled : B → List ℕ) (fits : B → Type 0) where
       let line = event_line spelled spelling e in
       omega (arith, ap length t, length-append line more, length-append (text_of_event spelled fits e) (10 ∷ []))
 
-  -- texts of events with more behind each that begins with no event's line: as many events, and the same behind them
+  -- equal texts of events, each followed by more that begins with no event's line: as many events, and the same after
+  -- them
   pub same_ends : (a b : List (Event B Parts (List ℕ))) (r s : List ℕ) → FitEvents spelled fits a → FitEvents spelled fits b → text_of_events spelled fits a ++ r ≡ text_of_events spelled fits b ++ s
       → Ends r → Ends s → (length a ≡ length b) × (r ≡ s)
   same_ends [] [] r s h k t p q = (refl, t)
@@ -49,19 +50,19 @@ module _ {B : Type 0} (spelled : B → List ℕ) (fits : B → Type 0) where
       let more = same_ends a b r s (rest_fit e a h) (rest_fit f b k) l.1 p q in
       (omega (arith, more.0), more.1)
 
-  -- a text has one first bad line
+  -- a text has at most one first bad line
   pub one_first_bad : HasOneFirstBad spelled fits
   one_first_bad text one other h k =
       let same = same_ends h.before k.before h.rest k.rest h.good k.good (h.whole ∙ sym k.whole) h.bad k.bad in
       omega (arith, same.0, h.counted, k.counted)
 
-  -- and none where it is of events
+  -- and none if it is the text of events
   pub none_is_bad : HaveNoBadLine spelled fits
   none_is_bad text events number of h =
       let same = same_ends h.before events h.rest [] h.good of.0 (h.whole ∙ (sym of.1 ∙ sym (append-nil (text_of_events spelled fits events)))) h.bad nothing_ends in
       omega (arith, h.left, ap length same.1)
 
--- Over bodies of which no two have one spelling
+-- Over bodies where no two have one spelling
 module _ {B : Type 0} (spelled : B → List ℕ) (fits : B → Type 0) (own : (a b : B) → fits a → fits b → spelled a ≡ spelled b → a ≡ b) where
   pub one_list : (a b : List (Event B Parts (List ℕ))) → FitEvents spelled fits a → FitEvents spelled fits b → text_of_events spelled fits a ≡ text_of_events spelled fits b → a ≡ b
   one_list [] [] h k t = refl

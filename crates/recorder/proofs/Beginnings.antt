@@ -18,7 +18,7 @@ step : (w : List ℕ) (k found : Kind) (rest : Option Kind) (t : Bool) → same_
 step w k found rest true h more e = let same : k ≡ found = cc in ap word (sym same) ∙ sym (same_bytes-eq w (word k) h)
 step w k found rest false h more e = more e
 
--- a kind's word is the one it was found by
+-- a kind has the word by which it was found
 pub word_back : (w : List ℕ) (k : Kind) → kind_of_word w ≡ Some k → word k ≡ w
 word_back w k e =
     step w Timeout k _ _ refl (λ e. step w Beat k _ _ refl (λ e. step w Deliver k _ _ refl (λ e. step w Ask k _ _ refl (λ e. step w Opened k _ _ refl
@@ -49,13 +49,13 @@ word_lacks Claim = refl
 word_lacks Apply = refl
 word_lacks Look = refl
 
--- Over bodies, their spelling and its limits
+-- Over bodies, with their spelling and limits
 module _ {B : Type 0} (spelled : B → List ℕ) (fits : B → Type 0) where
-  -- where the line of an input falls in two
+  -- where to split the line of an input in two
   pub input_split : (line : List ℕ) (x : Input B Parts (List ℕ)) → text_of_input spelled fits x ≡ line → split_at 32 line ≡ Some (word (kind_of spelled spelling x), fields spelled spelling x)
   input_split line x e = rw (← e) (joined 32 (word (kind_of spelled spelling x)) (fields spelled spelling x) (word_lacks (kind_of spelled spelling x)))
 
-  -- no input has a line that does not fall in two
+  -- no input has a line that can't be split in two
   pub no_input : (line : List ℕ) → split_at 32 line ≡ None → (x : Input B Parts (List ℕ)) → FitsInput spelled fits x → text_of_input spelled fits x ≡ line → ⊥
   no_input line s x f e = let p = input_split line x e in absurd cc
 
@@ -65,7 +65,7 @@ module _ {B : Type 0} (spelled : B → List ℕ) (fits : B → Type 0) where
       let pair : (word (kind_of spelled spelling x), fields spelled spelling x) ≡ (w, rest) = cc in
       (ap (λ (q : List ℕ × List ℕ). q.0) pair, ap (λ (q : List ℕ × List ℕ). q.1) pair)
 
-  -- nor has one whose word is no kind's
+  -- nor one whose word is no kind's
   pub no_kind : (line w rest : List ℕ) → split_at 32 line ≡ Some (w, rest) → kind_of_word w ≡ None → (x : Input B Parts (List ℕ)) → FitsInput spelled fits x → text_of_input spelled fits x ≡ line → ⊥
   no_kind line w rest s none x f e =
       let p = same_word line w rest x s e in
@@ -80,7 +80,7 @@ module _ {B : Type 0} (spelled : B → List ℕ) (fits : B → Type 0) where
       let same : kind_of spelled spelling x ≡ kind = cc in
       none x f same p.1
 
-  -- what is read of the fields is what is read of the line
+  -- reading the fields reads the line
   pub input_read : {E : Type 0} (line w rest : List ℕ) (kind : Kind) (r : Result (Option (Input B Parts (List ℕ))) E) → split_at 32 line ≡ Some (w, rest) → kind_of_word w ≡ Some kind
       → IfOk r (ReadsFields spelled fits kind rest) → IfOk r (ReadsAs (text_of_input spelled fits) (FitsInput spelled fits) line)
   input_read line w rest kind (Err fault) s is h = tt

@@ -16,7 +16,7 @@ use Rattle.recorder.specs.Readings.{FitsDigits, IsWord}
 use Rattle.recorder.specs.InputReadings.{FitsInput}
 use Rattle.recorder.proofs.Fronts.{fronted, node_small}
 
--- what follows a number is one text
+-- only one text can follow a number
 pub behind_number : (rest tail : List ℕ) (n : ℕ) → IsWord n → number_and n tail ≡ rest → (m : ℕ) (s : List ℕ) → IsWord m → number_and m s ≡ rest → s ≡ tail
 behind_number rest tail n small e m s less is =
     let f = fronted n tail rest small e in
@@ -24,7 +24,7 @@ behind_number rest tail n small e m s less is =
     let pair : (decimal m, s) ≡ (decimal n, tail) = cc in
     ap (λ (p : List ℕ × List ℕ). p.1) pair
 
--- and the number in front is one
+-- and only one number can be in front
 pub one_number : (rest tail : List ℕ) (n : ℕ) → IsWord n → number_and n tail ≡ rest → (m : ℕ) (s : List ℕ) → IsWord m → number_and m s ≡ rest → m ≡ n
 one_number rest tail n small e m s less is =
     let f = fronted n tail rest small e in
@@ -32,11 +32,11 @@ one_number rest tail n small e m s less is =
     let pair : (decimal m, s) ≡ (decimal n, tail) = cc in
     decimal_injective m n less small (ap (λ (p : List ℕ × List ℕ). p.0) pair)
 
--- as what follows a node is
+-- only one text can follow a node
 pub behind_node : (rest tail : List ℕ) (n : ℕ) → IsNode n → node_and n tail ≡ rest → (m : ℕ) (s : List ℕ) → IsNode m → node_and m s ≡ rest → s ≡ tail
 behind_node rest tail n small e m s less is = behind_number rest tail n (node_small n small) e m s (node_small m less) is
 
--- Over bodies, their spelling and its limits: what is so of each input of a kind with these fields
+-- Over bodies, with their spelling and limits: what holds of each input of a kind with these fields
 module _ {B : Type 0} (spelled : B → List ℕ) (fits : B → Type 0) where
   pub of_timeout : (P : Input B Parts (List ℕ) → Type 0) (rest : List ℕ) → ((n : ℕ) → IsNode n → decimal n ≡ rest → P (input.Timeout n))
       → (x : Input B Parts (List ℕ)) → FitsInput spelled fits x → kind_of spelled spelling x ≡ kind.Timeout → fields spelled spelling x ≡ rest → P x

@@ -1,4 +1,4 @@
--- Numbers in front of what follows them.
+-- Numbers in front of other text.
 use Rattle.std.proofs.Common.{◌≡◌, ℕ, List, ◌∷◌, ◌++◌, ap, arith}
 use Rattle.std.specs.Prelude.{decimal, Some, None}
 use Rattle.raft_log.specs.Lists.{IsNode}
@@ -13,7 +13,7 @@ fronted n tail bytes small e = rw (← e) (joined 32 (decimal n) tail (number_la
 pub no_front : (bytes : List ℕ) → split_at 32 bytes ≡ None → (p : ℕ × List ℕ) → IsWord p.0 → number_text p ≡ bytes → ⊥
 no_front bytes none p small e = let f = fronted p.0 p.1 bytes small e in absurd cc
 
--- nor has one whose front is none
+-- a number in front has the digits of the front
 pub other_front : (bytes front tail : List ℕ) → split_at 32 bytes ≡ Some (front, tail) → (p : ℕ × List ℕ) → IsWord p.0 → number_text p ≡ bytes → decimal p.0 ≡ front
 other_front bytes front tail is p small e =
     let f = fronted p.0 p.1 bytes small e in

@@ -22,11 +22,11 @@ use Rattle.recorder.proofs.ByKind.{behind_number, of_apply, of_ask, of_beat, of_
 use Rattle.recorder.proofs.Fronts.{node_small}
 use Rattle.recorder.proofs.Splits.{joined}
 
--- a word is of one kind
+-- a word belongs to one kind
 one_kind : (j k : Kind) → word j ≡ word k → j ≡ k
 one_kind j k e = let f = word_found j in let g = word_found k in cc
 
--- and a side's of one side
+-- and a side's word to one side
 side_found : (b : Bool) → side_of_word (side_word b) ≡ Some b
 side_found false = refl
 side_found true = refl
@@ -38,26 +38,26 @@ side_lacks : (b : Bool) → split_at 32 (side_word b) ≡ None
 side_lacks false = refl
 side_lacks true = refl
 
--- a number's digits are of one number, and a node's
+-- digits belong to one number, and to one node
 one_of : (m n : ℕ) → IsWord m → IsWord n → decimal m ≡ decimal n → m ≡ n
 one_of m n a b e = decimal_injective m n a b e
 
 node_of : (m n : ℕ) → IsNode m → IsNode n → decimal m ≡ decimal n → m ≡ n
 node_of m n a b e = one_of m n (node_small m a) (node_small n b) e
 
--- with what follows them
+-- a number and what follows it
 front_of : (m n : ℕ) (s tail : List ℕ) → IsWord m → IsWord n → number_and m s ≡ number_and n tail → (m ≡ n) × (s ≡ tail)
 front_of m n s tail a b e = (one_number (number_and n tail) tail n b refl m s a e, behind_number (number_and n tail) tail n b refl m s a e)
 
 one_digits : (a b : List ℕ) → IsBytes a → IsBytes b → encode_lower a ≡ encode_lower b → a ≡ b
 one_digits a b h k e = let f = decode_of-encode_lower a h in let g = decode_of-encode_lower b k in cc
 
--- Over bodies, their spelling and its limits, where no two have one spelling
+-- Over bodies, with their spelling and limits, where no two have one spelling
 module _ {B : Type 0} (spelled : B → List ℕ) (fits : B → Type 0) (own : (a b : B) → fits a → fits b → spelled a ≡ spelled b → a ≡ b) where
   one_body : (a b : B) → FitsDigits fits spelled a → FitsDigits fits spelled b → encode_lower (spelled a) ≡ encode_lower (spelled b) → a ≡ b
   one_body a b h k e = own a b h.0 k.0 (one_digits (spelled a) (spelled b) h.1 k.1 e)
 
-  -- inputs of one kind with the same fields are one
+  -- inputs of one kind with the same fields are equal
   one_of_fields : (x y : Input B Parts (List ℕ)) → FitsInput spelled fits x → FitsInput spelled fits y → kind_of spelled spelling y ≡ kind_of spelled spelling x → fields spelled spelling y ≡ fields spelled spelling x → x ≡ y
   one_of_fields (input.Timeout n) y f g = of_timeout spelled fits (λ z. input.Timeout n ≡ z) (decimal n) (λ m h e. let same : m ≡ n = node_of m n h f e in cc) y g
   one_of_fields (input.Beat n) y f g = of_beat spelled fits (λ z. input.Beat n ≡ z) (decimal n) (λ m h e. let same : m ≡ n = node_of m n h f e in cc) y g

@@ -1,4 +1,4 @@
--- Lines of events hold no LF before their end.
+-- Lines of events have no LF before their end.
 use Rattle.std.proofs.Common.{◌≡◌, ℕ, Bool, true, false, not, List, [], ◌∷◌, ◌++◌, refl, sym, ap, subst, ◌∙◌, append_assoc, arith}
 use Rattle.std.specs.Prelude.{◌==◌, if◌then◌else◌, Option, Some, None, codes, decimal, IsTrue}
 use Rattle.std.specs.List.{list_all}
@@ -31,7 +31,7 @@ lacks_by m b s back true r q h more = absurd cc
 lacks_by m b s back false None q h more = let e : q ≡ None = more refl in rw e refl
 lacks_by m b s back false (Some p) q h more = absurd cc
 
--- what two texts lack, both in a row lack
+-- if two texts lack a byte, so does the joined text
 pub both_lack : (m : ℕ) (s back : List ℕ) → split_at m s ≡ None → split_at m back ≡ None → split_at m (s ++ back) ≡ None
 both_lack m [] back h k = k
 both_lack m (b ∷ s) back h k = lacks_by m b s back (b == m) (split_at m s) (split_at m (s ++ back)) h (λ e. both_lack m s back e k)
@@ -43,12 +43,12 @@ lacks_step m b test s true is h all more =
     absurd cc
 lacks_step m b test s false is h all more = rw more refl
 
--- a text of bytes that pass a test lacks a byte that does not
+-- a text whose bytes pass a test lacks a byte that does not
 pub tested_lack : (m : ℕ) (test : ℕ → Bool) (s : List ℕ) → test m ≡ false → list_all test s ≡ true → split_at m s ≡ None
 tested_lack m test [] h all = refl
 tested_lack m test (b ∷ s) h all = lacks_step m b test s (b == m) refl h all (tested_lack m test s h (and_right (test b) (list_all test s) all))
 
--- names, lines and digits lack a LF
+-- names, lines and digits lack an LF
 
 name_lacks : (name : List ℕ) → IsTrue (is_name name) → split_at 10 name ≡ None
 unfolding is_name
@@ -81,7 +81,7 @@ word_lack kind.Claim = refl
 word_lack kind.Apply = refl
 word_lack kind.Look = refl
 
--- Over bodies, their spelling and its limits
+-- Over bodies, with their spelling and limits
 module _ {B : Type 0} (spelled : B → List ℕ) (fits : B → Type 0) where
   fields_lack : (x : Input B Parts (List ℕ)) → FitsInput spelled fits x → split_at 10 (fields spelled spelling x) ≡ None
   fields_lack (input.Timeout n) f = number_lack n (node_small n f)
@@ -104,13 +104,13 @@ module _ {B : Type 0} (spelled : B → List ℕ) (fits : B → Type 0) where
   event_lacks (StopIn x false) f = both_lack 10 (codes "stop before ") (text_of_input spelled fits x) refl (input_lacks x f)
   event_lacks (StopIn x true) f = both_lack 10 (codes "stop after ") (text_of_input spelled fits x) refl (input_lacks x f)
 
-  -- where an event's line with its end begins a text, the text falls in two there
+  -- a text that begins with an event's line and its end is split after that line
   pub line_split : (e : Event B Parts (List ℕ)) (more rest : List ℕ) → FitsEvent spelled fits e → line_and spelled fits (e, more) ≡ rest → split_at 10 rest ≡ Some (text_of_event spelled fits e, more)
   line_split e more rest f t =
       let whole : text_of_event spelled fits e ++ 10 ∷ more ≡ rest = sym (append_assoc (text_of_event spelled fits e) (10 ∷ []) more) ∙ t in
       subst (λ (r : List ℕ). split_at 10 r ≡ Some (text_of_event spelled fits e, more)) whole (joined 10 (text_of_event spelled fits e) more (event_lacks e f))
 
-  -- a text without a LF begins with no event's line
+  -- a text without an LF begins with no event's line
   pub no_line : (rest : List ℕ) → split_at 10 rest ≡ None → (p : Event B Parts (List ℕ) × List ℕ) → FitsFirst spelled fits p → line_and spelled fits p ≡ rest → ⊥
   no_line rest s p f t = let l = line_split p.0 p.1 rest f t in absurd cc
 

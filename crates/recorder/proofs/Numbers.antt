@@ -1,4 +1,4 @@
--- Numbers in decimal digits, and what is none.
+-- Numbers in decimal digits, and texts that are no numbers.
 use Rattle.std.proofs.Common.{◌≡◌, ◌≢◌, ℕ, ◌<◌, ◌⊎◌, inl, inr, List, Result, Ok, Err, sym, subst, ap, ◌∙◌, arith}
 use Rattle.std.specs.Prelude.{decimal}
 use Rattle.std.specs.Str.{IsUtf8}
@@ -8,11 +8,11 @@ use Rattle.std.proofs.lemmas.Str.{IsUtf8-from_ascii}
 use Rattle.raft_log.specs.Lists.{IsNode}
 use Rattle.recorder.specs.Readings.{IsWord}
 
--- what is no text is no number
+-- bytes that are no text are no number
 pub no_text : (bytes : List ℕ) → (IsUtf8 bytes → ⊥) → (n : ℕ) → IsWord n → decimal n ≡ bytes → ⊥
 no_text bytes none n small e = none (subst IsUtf8 e (IsUtf8-from_ascii (decimal n) (IsAscii-decimal n small)))
 
--- nor is what does not parse
+-- nor is a text that does not parse
 pub no_number : {E : Type 0} (bytes : List ℕ) (r : Result ℕ E) (fault : E) → ParsesUnsigned 64 10 bytes r → r ≡ Err fault → (n : ℕ) → IsWord n → decimal n ≡ bytes → ⊥
 no_number bytes r fault h is n small e = let read : r ≡ Ok n = parse-decimal 64 n bytes r small small (sym e) h in absurd cc
 

@@ -18,7 +18,7 @@ use Rattle.wire_bytes.specs.LineCodec.{line_fits}
 use Rattle.wire_bytes.specs.declared.wire_fault.WireFault.{WireFault}
 use Rattle.recorder.specs.Readings.{FitsDigits, ReadsAs, digits_of}
 
--- a line of this spelling is the one that is read
+-- the spelling of a line is read as that line
 read_back : (bytes : List ℕ) (p : Parts) → FitsLine p → spelling p ≡ bytes → canonical bytes (judged bytes) ≡ Some p
 read_back bytes p h e =
     subst (λ (b : List ℕ). canonical b (judged b) ≡ Some p) e
@@ -28,7 +28,7 @@ judged_by : (bytes : List ℕ) (q p : Parts) (b : Bool) → same_bytes (spelling
 judged_by bytes q p true h e = (cc, same_bytes-eq (spelling q) bytes h)
 judged_by bytes q p false h e = absurd cc
 
--- what is read fits, and is so spelled
+-- what is read fits, and has this spelling
 read_fits : (bytes : List ℕ) (r : Result Parts LineFault) (p : Parts) → judged bytes ≡ r → canonical bytes r ≡ Some p → FitsLine p × (spelling p ≡ bytes)
 read_fits bytes (Ok q) p is e =
     let j = judged_by bytes q p (same_bytes (spelling q) bytes) refl e in
@@ -41,13 +41,13 @@ too_long bytes line p e h fits s =
     let same : line ≡ p = cc in
     omega (arith, h, fits.1, ap (λ (x : Parts). length (spelling x)) same)
 
--- what is read, where it is not too long
+-- the line that is read, if it is not too long
 pub line_read : (bytes : List ℕ) (line : Parts) (r : Option Parts) → canonical bytes (judged bytes) ≡ Some line
     → MatchOption r (511 < length (spelling line)) (λ l. (l ≡ line) × IsShort line) → ReadsAs spelling FitsLine bytes r
 line_read bytes line (Some l) e h = subst (λ (p : Parts). FitsLine p × (spelling p ≡ bytes)) (sym h.0) (read_fits bytes (judged bytes) line refl e)
 line_read bytes line None e h = λ p fits s. too_long bytes line p e h fits s
 
--- bytes that are read as none have no line
+-- bytes that are read as no line are no line's spelling
 pub no_line : (bytes : List ℕ) → canonical bytes (judged bytes) ≡ None → (p : Parts) → FitsLine p → spelling p ≡ bytes → ⊥
 no_line bytes e p fits s = let back : canonical bytes (judged bytes) ≡ Some p = read_back bytes p fits s in absurd cc
 
@@ -58,13 +58,13 @@ module _ {X : Type 0} (spelled : X → List ℕ) (fits : X → Type 0) (taken : 
       subst (λ (b : List ℕ). taken b ≡ Ok (v, length b)) e
       (subst (λ (b : List ℕ). taken b ≡ Ok (v, length (spelled v))) (append-nil (spelled v)) (codec.read_back v [] h))
 
-  -- what is read to the end fits, and is so spelled
+  -- what is read to the end fits, and has this spelling
   pub whole_is : (bytes : List ℕ) (v : X) (n : ℕ) → AreBytes bytes → taken bytes ≡ Ok (v, n) → n ≡ length bytes → fits v × (spelled v ≡ bytes)
   whole_is bytes v n are e same =
       let one = codec.one_spelling bytes v n are e in
       (one.0, sym one.1 ∙ take_all n bytes (omega (arith, same)))
 
-  -- what is read to another place is nothing's spelling
+  -- what is read to another place is no value's spelling
   pub not_whole : (bytes : List ℕ) (v : X) (n : ℕ) → taken bytes ≡ Ok (v, n) → n ≢ length bytes → (w : X) → fits w → spelled w ≡ bytes → ⊥
   not_whole bytes v n e other w h s =
       let back : taken bytes ≡ Ok (w, length bytes) = taken_back bytes w h s in
@@ -80,11 +80,11 @@ module _ {X : Type 0} (spelled : X → List ℕ) (fits : X → Type 0) where
   digits_back : (digits : List ℕ) (v : X) → FitsDigits fits spelled v → digits_of spelled v ≡ digits → decode_of digits ≡ Ok (spelled v)
   digits_back digits v h e = subst (λ (d : List ℕ). decode_of d ≡ Ok (spelled v)) e (decode_of-encode_lower (spelled v) h.1)
 
-  -- what does not decode is no value's digits
+  -- digits that do not decode are no value's digits
   pub no_digits : (digits : List ℕ) (fault : FromHexError) → decode_of digits ≡ Err fault → (v : X) → FitsDigits fits spelled v → digits_of spelled v ≡ digits → ⊥
   no_digits digits fault e v h s = let back = digits_back digits v h s in absurd cc
 
-  -- nor are the digits of bytes that are written in another way
+  -- nor are digits that are written in another way
   pub other_digits : (digits bytes : List ℕ) → decode_of digits ≡ Ok bytes → encode_lower bytes ≢ digits → (v : X) → FitsDigits fits spelled v → digits_of spelled v ≡ digits → ⊥
   other_digits digits bytes e other v h s =
       let back = digits_back digits v h s in
@@ -94,7 +94,7 @@ module _ {X : Type 0} (spelled : X → List ℕ) (fits : X → Type 0) where
   bytes_are : (digits bytes : List ℕ) (v : X) → decode_of digits ≡ Ok bytes → FitsDigits fits spelled v → digits_of spelled v ≡ digits → spelled v ≡ bytes
   bytes_are digits bytes v e h s = let back = digits_back digits v h s in cc
 
-  -- what is read of the bytes is what is read of the digits
+  -- reading the bytes reads the digits
   pub digits_read : {E : Type 0} (digits bytes : List ℕ) (r : Result (Option X) E) → decode_of digits ≡ Ok bytes → encode_lower bytes ≡ digits
       → IfOk r (ReadsAs spelled fits bytes) → IfOk r (ReadsAs (digits_of spelled) (FitsDigits fits spelled) digits)
   digits_read digits bytes (Err fault) e is h = tt

@@ -1,4 +1,4 @@
--- Where texts fall in two.
+-- Where texts are split in two.
 use Rattle.std.proofs.Common.{◌≡◌, ℕ, zero, suc, ◌+◌, ◌<◌, ◌≤◌, ◌^◌, Bool, true, false, cond, List, [], ◌∷◌, ◌++◌, length, take, drop, get_or, refl, sym, ap, arith}
 use Rattle.std.specs.Prelude.{◌==◌, if◌then◌else◌, nat_lt, Option, Some, None, position, decimal}
 use Rattle.std.specs.List.{position_or_len}
@@ -19,7 +19,7 @@ at_index m (b ∷ xs) (suc i) lt here before =
     let one : suc i + 1 ≡ suc (i + 1) = omega arith in
     rw (first, ih, one) refl
 
--- where the byte is found, the text falls in two there
+-- where the byte is found, the text is split
 pub found : (m : ℕ) (xs : List ℕ) (i : ℕ) → position (λ b. b == m) xs ≡ Some i → split_at m xs ≡ Some (take i xs, drop (i + 1) xs)
 found m xs i h = let p = position-Some (λ b. b == m) xs i 0 h in at_index m xs i p.0 p.1 p.2
 
@@ -34,7 +34,7 @@ missing_by : (m : ℕ) (xs : List ℕ) (n : ℕ) (t : Bool) → nat_lt n (length
 missing_by m xs n true e h = absurd cc
 missing_by m xs n false e h = grind (arith, nat_tests)
 
--- where it is not found, it does not
+-- where it is not found, the text is not split
 pub missing : (m : ℕ) (xs : List ℕ) → position (λ b. b == m) xs ≡ None → split_at m xs ≡ None
 missing m xs h =
     let n : ℕ = position_or_len (λ b. b == m) xs in
@@ -46,7 +46,7 @@ joined_by m b front back true r s h more = absurd cc
 joined_by m b front back false None s h more = let e : s ≡ Some (front, back) = more refl in rw e refl
 joined_by m b front back false (Some p) s h more = absurd cc
 
--- a text that lacks the byte, the byte and any text fall in two there
+-- a text that lacks the byte, followed by the byte and any text, is split at the byte
 pub joined : (m : ℕ) (front back : List ℕ) → split_at m front ≡ None → split_at m (front ++ m ∷ back) ≡ Some (front, back)
 joined m [] back h = let same : (m == m) ≡ true = grind (arith, nat_tests) in rw same refl
 joined m (b ∷ front) back h = joined_by m b front back (b == m) (split_at m front) (split_at m (front ++ m ∷ back)) h (joined m front back)
@@ -66,7 +66,7 @@ parts_by m b rest front back false (Some p) e h more =
     let k : back ≡ p.1 = sym (ap (λ (x : List ℕ × List ℕ). x.1) same) in
     rw (f, k) (ap (λ (l : List ℕ). b ∷ l) (more p.0 p.1 refl))
 
--- the parts are the text
+-- the parts make the text
 pub parts : (m : ℕ) (xs front back : List ℕ) → split_at m xs ≡ Some (front, back) → front ++ m ∷ back ≡ xs
 parts m [] front back h = absurd cc
 parts m (b ∷ rest) front back h = parts_by m b rest front back (b == m) (split_at m rest) refl h (parts m rest)
@@ -79,6 +79,6 @@ digits_lack m (d ∷ ds) lt all =
     let ih : split_at m ds ≡ None = digits_lack m ds lt all.1 in
     rw (first, ih) refl
 
--- a number has digits alone
+-- a number consists of digits
 pub number_lacks : (m n : ℕ) → m < 48 → n < 2 ^ 64 → split_at m (decimal n) ≡ None
 number_lacks m n lt small = digits_lack m (decimal n) lt (digits_decimal (numerals_by_value _ tells_digits) n small)

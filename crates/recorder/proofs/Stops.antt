@@ -16,15 +16,15 @@ side_step : (w : List ℕ) (b found : Bool) (rest : Option Bool) (t : Bool) → 
 side_step w b found rest true h more e = let same : b ≡ found = cc in ap side_word (sym same) ∙ sym (same_bytes-eq w (side_word b) h)
 side_step w b found rest false h more e = more e
 
--- a side's word is the one it was found by
+-- a side has the word by which it was found
 pub side_back : (w : List ℕ) (b : Bool) → side_of_word w ≡ Some b → side_word b ≡ w
 side_back w b e = side_step w false b _ _ refl (λ e. side_step w true b _ _ refl (λ e. absurd cc) e) e
 
--- behind the same word stands the same line
+-- lines with the same word have the same rest
 pub behind_word : (line w known rest : List ℕ) → split_at 32 line ≡ Some (w, rest) → same_bytes w known ≡ true → known ++ 32 ∷ rest ≡ line
 behind_word line w known rest s same = ap (λ (b : List ℕ). b ++ 32 ∷ rest) (sym (same_bytes-eq w known same)) ∙ parts 32 line w rest s
 
--- Over bodies, their spelling and its limits
+-- Over bodies, with their spelling and limits
 module _ {B : Type 0} (spelled : B → List ℕ) (fits : B → Type 0) where
   stop_text : (rest behind : List ℕ) (x : Input B Parts (List ℕ)) (after : Bool) → side_word after ++ 32 ∷ behind ≡ rest → text_of_input spelled fits x ≡ behind → text_of_event spelled fits (StopIn x after) ≡ codes "stop " ++ rest
   stop_text rest behind x false p t = rw (← p, t) refl

@@ -8,7 +8,7 @@ use Rattle.world_events.specs.declared.event.Event.TheVariants.{Does, Restart, S
 use Rattle.recorder.specs.EventLists.{AreWritable, FitEvents}
 use Rattle.recorder.specs.InputReadings.{FitsEvent, FitsInput, IsWritable, IsWritableInput}
 
--- Over bodies, their spelling and its limits
+-- Over bodies, with their spelling and limits
 module _ {B : Type 0} (spelled : B → List ℕ) (fits : B → Type 0) where
   input_is : (x : Input B Parts (List ℕ)) → FitsInput spelled fits x → IsWritableInput spelled fits x
   input_is (input.Timeout n) f = f

@@ -1,4 +1,4 @@
--- How what leaves is printed.
+-- How effects are printed.
 use Rattle.std.specs.Prelude.{ℕ, List, [], ◌∷◌, ◌++◌, take, flat_map, codes, decimal}
 use Rattle.irc_line.specs.Lines.{Parts, spelling}
 use Rattle.wire_bytes.specs.Texts.{origin_text}
@@ -17,7 +17,7 @@ use Rattle.irc_line.specs.Limits.{content_limit}
 abbrev pub to_origin : List ℕ → Origin → List ℕ
 to_origin word o = word ++ 32 ∷ origin_text o
 
--- what a line is printed as: its spelling's first 510 bytes
+-- how a line is printed: the first 510 bytes of its spelling
 abbrev pub printed_line : List ℕ → List ℕ
 printed_line spelled = take content_limit spelled
 
@@ -34,7 +34,7 @@ effect_words (Rejoin line) = rejoin_words line
 
 -- Over the words of the effects below
 module _ {E : Type 0} (inner : E → List ℕ) where
-  -- an effect below, or a channel that is joined again; the session that joins it is not told
+  -- an effect below, or a channel that is joined again; the session that joins it is not printed
   abbrev pub fence_words : FenceEffect E → List ℕ
   fence_words (Fenced e) = inner e
   fence_words (RejoinOf id line) = rejoin_words line

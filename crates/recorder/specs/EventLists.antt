@@ -1,4 +1,4 @@
--- What is read of a text of events, and what is written of them.
+-- How a text of events is read and written.
 use Rattle.std.specs.Prelude.{◌≡◌, ℕ, List, ◌++◌, ⊤}
 use Rattle.irc_line.specs.Lines.{Parts, spelling}
 use Rattle.wire_bytes.specs.Contents.{FitsLine}
@@ -9,7 +9,7 @@ use Rattle.recorder.specs.EventText.{AreEvents, IsBadLine, event_line, events_te
 use Rattle.recorder.specs.InputReadings.{FitsEvent}
 use Rattle.recorder.specs.Readings.{FitsDigits}
 
--- Over bodies, their spelling and its limits
+-- Over bodies, with their spelling and limits
 module _ {B : Type 0} (spelled : B → List ℕ) (fits : B → Type 0) where
   -- an event's line with its end, and what follows it
   abbrev pub line_and : Event B Parts (List ℕ) × List ℕ → List ℕ
@@ -27,7 +27,7 @@ module _ {B : Type 0} (spelled : B → List ℕ) (fits : B → Type 0) where
   abbrev pub FitEvents : List (Event B Parts (List ℕ)) → Type 0
   FitEvents events = AreEvents spelled spelling (FitsDigits fits spelled) FitsLine events
 
-  -- each event may be written
+  -- each event can be written
   abbrev pub AreWritable : List (Event B Parts (List ℕ)) → Type 0
   AreWritable events = AreEvents spelled spelling fits FitsLine events
 
@@ -39,7 +39,7 @@ module _ {B : Type 0} (spelled : B → List ℕ) (fits : B → Type 0) where
   abbrev pub IsFirstBad : List ℕ → ℕ → Type 0
   IsFirstBad text number = IsBadLine spelled spelling (FitsDigits fits spelled) FitsLine text number
 
-  -- what is told of a text: its first bad line
+  -- the fault of a text: its first bad line
   abbrev pub IsFaultOf : List ℕ → EventsFault → Type 0
   IsFaultOf text (BadLine number) = IsFirstBad text number
   IsFaultOf text Memory = ⊤

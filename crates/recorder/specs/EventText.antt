@@ -20,7 +20,7 @@ node_and node tail = decimal node ++ 32 ∷ tail
 abbrev pub number_and : ℕ → List ℕ → List ℕ
 number_and number tail = decimal number ++ 32 ∷ tail
 
--- how a stop is told, by whether what was saved is as after the event
+-- the words of a stop, by whether what was saved is as after the event
 abbrev pub stop_words : Bool → List ℕ
 stop_words false = codes "stop before "
 stop_words true = codes "stop after "
@@ -71,7 +71,7 @@ module _ {B L : Type 0} (body : B → List ℕ) (line : L → List ℕ) where
   abbrev pub event_line : Event B L (List ℕ) → List ℕ
   event_line e = event_text e ++ 10 ∷ []
 
-  -- a line an event
+  -- one line for each event
   abbrev pub events_text : List (Event B L (List ℕ)) → List ℕ
   events_text events = flat_map event_line events
 
@@ -101,7 +101,7 @@ module _ {B L : Type 0} (body : B → List ℕ) (line : L → List ℕ) where
     abbrev pub AreEvents : List (Event B L (List ℕ)) → Type 0
     AreEvents events = All IsEvent events
 
-    -- a line is the first that is no event: so many events stand before it, and what is left begins with none
+    -- a line is the first that is no event: this many events come before it, and the rest begins with none
     pub record IsBadLine (text : List ℕ) (number : ℕ) : Type 0 where
       pub before : List (Event B L (List ℕ))
       pub good : AreEvents before

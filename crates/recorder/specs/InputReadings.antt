@@ -1,4 +1,4 @@
--- What is read behind the word of a kind, and of whole lines.
+-- How the text after the word of a kind is read, and whole lines.
 use Rattle.std.specs.Prelude.{◌≡◌, ℕ, List, ◌++◌, Option, Some, None}
 use Rattle.irc_line.specs.Lines.{Parts, spelling}
 use Rattle.wire_bytes.specs.Contents.{FitsLine}
@@ -9,7 +9,7 @@ use Rattle.recorder.specs.declared.kind.Kind.{Kind}
 use Rattle.recorder.specs.EventText.{kind_of, fields, input_text, event_text, IsInput, IsEvent}
 use Rattle.recorder.specs.Readings.{FitsDigits, ReadsAs}
 
--- Over bodies, their spelling and its limits
+-- Over bodies, with their spelling and limits
 module _ {B : Type 0} (spelled : B → List ℕ) (fits : B → Type 0) where
   -- the limits of what is read
   abbrev pub FitsInput : Input B Parts (List ℕ) → Type 0
@@ -19,7 +19,7 @@ module _ {B : Type 0} (spelled : B → List ℕ) (fits : B → Type 0) where
   abbrev pub FitsEvent : Event B Parts (List ℕ) → Type 0
   FitsEvent e = IsEvent spelled spelling (FitsDigits fits spelled) FitsLine e
 
-  -- the same without that a body is spelled by bytes, which what is written shows
+  -- the same, except that the spelling of a body need not be bytes: writing shows that it is
   abbrev pub IsWritableInput : Input B Parts (List ℕ) → Type 0
   IsWritableInput x = IsInput spelled spelling fits FitsLine x
 
@@ -35,16 +35,18 @@ module _ {B : Type 0} (spelled : B → List ℕ) (fits : B → Type 0) where
   abbrev pub text_of_event : Event B Parts (List ℕ) → List ℕ
   text_of_event e = event_text spelled spelling e
 
-  -- the input of a kind is within its limits and has these fields, or there is none such
+  -- the input of this kind is within its limits and has these fields, or there is no such input
   abbrev pub ReadsFields : Kind → List ℕ → Option (Input B Parts (List ℕ)) → Type 0
   ReadsFields kind bytes (Some x) = FitsInput x × (kind_of spelled spelling x ≡ kind) × (fields spelled spelling x ≡ bytes)
   ReadsFields kind bytes None = (x : Input B Parts (List ℕ)) → FitsInput x → kind_of spelled spelling x ≡ kind → fields spelled spelling x ≡ bytes → ⊥
 
-  -- the event behind these words
+  -- the event is within its limits and has these words and this rest as its text, or there is no
+  -- such event
   abbrev pub ReadsBehind : List ℕ → List ℕ → Option (Event B Parts (List ℕ)) → Type 0
   ReadsBehind words rest r = ReadsAs text_of_event FitsEvent (words ++ rest) r
 
-  -- what happens while nothing stops is within its limits and has this text, or there is none such
+  -- an event that is no restart and no stop is within its limits and has this text, or there is no
+  -- such event
   abbrev pub ReadsDoes : List ℕ → Option (Event B Parts (List ℕ)) → Type 0
   ReadsDoes line (Some e) = FitsEvent e × (text_of_event e ≡ line)
   ReadsDoes line None = (x : Input B Parts (List ℕ)) → FitsInput x → text_of_event (Does x) ≡ line → ⊥

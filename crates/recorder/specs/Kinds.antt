@@ -1,4 +1,4 @@
--- The words that events begin with.
+-- The words with which events begin.
 use Rattle.std.specs.Prelude.{ℕ, Bool, true, false, List, Option, Some, None, if◌then◌else◌, codes}
 use Rattle.irc_line.specs.Names.{same_bytes}
 use Rattle.recorder.specs.declared.kind.Kind.{Kind}
@@ -37,6 +37,6 @@ abbrev pub side_word : Bool → List ℕ
 side_word false = codes "before"
 side_word true = codes "after"
 
--- whether what was saved is as after the event, by this word, if any
+-- whether what was saved is as after the event, from this word, if it says so
 abbrev pub side_of_word : List ℕ → Option Bool
 side_of_word w = if same_bytes w (side_word false) then Some false else if same_bytes w (side_word true) then Some true else None

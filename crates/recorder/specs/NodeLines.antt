@@ -6,22 +6,22 @@ use Rattle.raft_log.specs.Logs.{last_term}
 use Rattle.raft_log.specs.Node.{Node}
 use Rattle.recorder.specs.declared.node_line.NodeFields.{NodeFields}
 
--- what a node is in its term, as a word
+-- the role of a node in its term, as a word
 abbrev pub role_word : Role → List ℕ
 role_word Follower = codes "follower"
 role_word Candidate = codes "candidate"
 role_word Leader = codes "leader"
 
--- the node that was voted for, 0 where there is none
+-- the node that was voted for, 0 if none was
 abbrev pub vote_number : Option ℕ → ℕ
 vote_number None = 0
 vote_number (Some node) = node
 
--- what it is in its term, the term, and for whom it voted
+-- the role in its term, the term, and for whom it voted
 abbrev pub term_words : Role → ℕ → Option ℕ → List ℕ
 term_words role term vote = 32 ∷ role_word role ++ codes " term " ++ decimal term ++ codes " vote " ++ decimal (vote_number vote)
 
--- how many entries its log has, and the term of the last, 0 where there is none
+-- how many entries its log has, and the term of the last, 0 if there is none
 abbrev pub log_words : ℕ → ℕ → List ℕ
 log_words log last = codes " log " ++ decimal log ++ codes " last " ++ decimal last
 
@@ -29,11 +29,11 @@ log_words log last = codes " log " ++ decimal log ++ codes " last " ++ decimal l
 abbrev pub place_words : ℕ → ℕ → List ℕ
 place_words commit applied = codes " commit " ++ decimal commit ++ codes " applied " ++ decimal applied ++ 10 ∷ []
 
--- what the line of a node tells of it
+-- what the line of a node says
 abbrev pub fields_of : {B : Type 0} → Node B → NodeFields
 fields_of s = record { role = s.role; term = s.term; vote = s.vote; log = length s.log; last = last_term s.log; commit = s.commit; applied = s.applied }
 
--- the line that tells this of a node, with its end
+-- the line that says this of a node, with its end
 abbrev pub fields_line : ℕ → NodeFields → List ℕ
 fields_line node f = (codes "node " ++ decimal node) ++ term_words f.role f.term f.vote ++ log_words f.log f.last ++ place_words f.commit f.applied
 

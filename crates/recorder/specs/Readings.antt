@@ -1,16 +1,16 @@
--- Values that a text is of.
+-- The value that a text has.
 use Rattle.std.specs.Prelude.{◌≡◌, ℕ, ◌<◌, IsTrue, ◌^◌, List, Option, Some, None}
 use Rattle.hex.specs.Hex.{IsBytes, encode_lower}
 use Rattle.irc_line.specs.Names.{is_name}
 use Rattle.raft_log.specs.Lists.{IsNode}
 use Rattle.recorder.specs.EventText.{node_and, number_and}
 
--- the value is within its limits and has this text, or there is none such
+-- the value is within its limits and has this text, or there is no such value
 abbrev pub ReadsAs : {A : Type 0} → (A → List ℕ) → (A → Type 0) → List ℕ → Option A → Type 0
 ReadsAs text fits bytes (Some a) = fits a × (text a ≡ bytes)
 ReadsAs {A} text fits bytes None = (a : A) → fits a → text a ≡ bytes → ⊥
 
--- eight bytes hold the number
+-- the number fits into eight bytes
 abbrev pub IsWord : ℕ → Type 0
 IsWord n = n < 2 ^ 64
 
@@ -26,7 +26,7 @@ NodeFits p = IsNode p.0
 abbrev pub number_text : ℕ × List ℕ → List ℕ
 number_text p = number_and p.0 p.1
 
--- eight bytes hold the number
+-- the number fits into eight bytes
 abbrev pub NumberFits : ℕ × List ℕ → Type 0
 NumberFits p = IsWord p.0
 
@@ -38,7 +38,7 @@ digits_of spelled body = encode_lower (spelled body)
 abbrev pub FitsDigits : {B : Type 0} → (B → Type 0) → (B → List ℕ) → B → Type 0
 FitsDigits fits spelled body = fits body × IsBytes (spelled body)
 
--- what is its own text
+-- a text that is the value itself
 abbrev pub own_text : List ℕ → List ℕ
 own_text bytes = bytes
 

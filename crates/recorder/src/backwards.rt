@@ -1,4 +1,4 @@
-//! Texts that are written from their end to their front: each call writes before an end, and returns where that begins.
+//! Texts that are written backwards from their end: each call writes before an end, and returns where its text begins.
 ghost use Rattle.std.specs.Prelude.{◌≡◌, ◌≤◌, ◌+◌, ◌++◌, ◌∷◌, decimal, drop, length};
 ghost use Rattle.wire_bytes.specs.Texts.{origin_text};
 ghost use Rattle.recorder.specs.EffectWords.{to_origin};

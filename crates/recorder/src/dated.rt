@@ -1,4 +1,4 @@
-//! Bodies that bring a client's name, as none did at first.
+//! Bodies that contain a client's name; the first versions had none.
 ghost use Rattle.std.specs.Prelude.{◌≡◌};
 ghost use Rattle.recorder.specs.Dates.{event_brings_name, input_brings_name};
 
@@ -9,11 +9,11 @@ use upstream_claim::ClaimsCommand;
 use wire_bytes::Wire;
 use world_events::{Event, Input};
 
-/// What tells whether it brings a client's name: a file of before clients had names holds none such.
+/// A value that says whether it contains a client's name. A file written before clients had names contains none.
 pub trait Dated: Wire {
     ghost use Rattle.std.specs.Prelude.{Bool};
 
-    /// Whether it brings a client's name.
+    /// Whether it contains a client's name.
     ghost brings_name: { Self → Bool };
 
     fn brings_name(&self) -> bool
@@ -69,7 +69,7 @@ impl<C: Dated> Dated for ClaimsCommand<C> {
     }
 }
 
-/// A request brings what its action brings.
+/// A request contains a name if its action does.
 impl<C: Dated, A: Dated> Dated for Body<C, A> {
     ghost use Rattle.recorder.specs.Dates.{body_brings_name};
 
@@ -84,7 +84,7 @@ impl<C: Dated, A: Dated> Dated for Body<C, A> {
     }
 }
 
-/// A body of one byte brings no name.
+/// A body of one byte contains no name.
 impl Dated for u8 {
     ghost use Rattle.std.specs.Prelude.{false};
 
@@ -95,7 +95,7 @@ impl Dated for u8 {
     }
 }
 
-/// Whether the body of an event brings a client's name, also where its node stops meanwhile.
+/// Whether the body of an event contains a client's name, also if its node stops meanwhile.
 pub fn event_brings_name<B: Dated, L, T>(event: &Event<B, L, T>) -> bool
     ensures { result ≡ event_brings_name B.brings_name event.now }
 {

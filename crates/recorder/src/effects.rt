@@ -1,4 +1,4 @@
-//! What leaves, as words and lines of text.
+//! Effects, as words and lines of text.
 ghost use Rattle.std.specs.Prelude.{◌≡◌, ◌≤◌, ◌++◌, ◌∷◌, [], decimal, length, OnOk};
 ghost use Rattle.irc_line.specs.Lines.{spelling};
 ghost use Rattle.recorder.specs.EffectWords.{answer_lines};
@@ -15,7 +15,7 @@ use std::alloc::AllocError;
 use upstream_claim::ClaimsEffect;
 use wire_bytes::Origin;
 
-/// What is printed in words.
+/// A value that is printed in words.
 pub trait Words {
     ghost use Rattle.std.specs.Prelude.{ℕ, List};
 
@@ -37,7 +37,7 @@ pub fn push_answers<E: Words>(
     ensures { OnOk result
         (out.new.items ≡ out.old.items ++ answer_lines E.words place answers.now) }
 {
-    // One place for all answers: its digits are made once.
+    // all answers have one place, so its digits are made once
     let mut text = [b' '; MOST_DIGITS + 1];
     let start = write_number(place, &mut text, MOST_DIGITS);
     for answer in answers {
@@ -158,7 +158,7 @@ fn push_before(out: &mut Vec<u8>, word: &[u8], origin: Origin) -> Result<(), All
     requires { length word.now ≤ MOST_LETTERS }
     ensures { OnOk result (out.new.items ≡ out.old.items ++ to_origin word.now origin ++ 32 ∷ []) }
 {
-    // the space stands there already
+    // the space is there already
     let mut text = [b' '; MOST_TO_ORIGIN + 1];
     let start = write_to_origin(word, origin, &mut text, MOST_TO_ORIGIN);
     out.extend_from_slice(&text[start..])

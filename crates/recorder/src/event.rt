@@ -1,4 +1,4 @@
-//! Events, read.
+//! Reading events.
 ghost use Rattle.std.specs.Prelude.{◌≡◌, codes, IfOk};
 ghost use Rattle.recorder.specs.InputReadings.{FitsEvent, ReadsBehind, ReadsDoes, text_of_event};
 ghost use Rattle.recorder.specs.Kinds.{side_of_word};
@@ -13,7 +13,7 @@ use std::alloc::{AllocError, Global};
 use wire_bytes::Wire;
 use world_events::Event;
 
-/// The event that a line without its end tells.
+/// The event of a line without its end.
 pub fn read_event<B: Wire>(
     alloc: Global,
     line: &[u8],
@@ -33,7 +33,7 @@ pub fn read_event<B: Wire>(
     }
 }
 
-/// What happens while nothing stops, as its line tells.
+/// An event that is no restart and no stop, from its line.
 fn read_does<B: Wire>(
     alloc: Global,
     line: &[u8],
@@ -46,7 +46,7 @@ fn read_does<B: Wire>(
     }
 }
 
-/// The restart of the node that stands behind its word.
+/// The restart of the node that follows its word.
 fn read_restart<B: Wire>(rest: &[u8]) -> Option<Event<B, WireLine, Name>>
     ensures { ReadsBehind B.spelled B.fits (codes "restart ") rest.now result }
 {
@@ -56,7 +56,7 @@ fn read_restart<B: Wire>(rest: &[u8]) -> Option<Event<B, WireLine, Name>>
     }
 }
 
-/// The stop that is told behind its word: whether what is saved is as before or as after, and what
+/// The stop described after its word: whether what is saved is as before or as after, and what
 /// happens.
 fn read_stop<B: Wire>(
     alloc: Global,
@@ -76,7 +76,7 @@ fn read_stop<B: Wire>(
     }
 }
 
-/// Whether what was saved is as after the event, by the word of a stop.
+/// Whether what was saved is as after the event, from the word of a stop.
 fn side(word: &[u8]) -> Option<bool>
     ensures { result ≡ side_of_word word.now }
 {

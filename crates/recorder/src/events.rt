@@ -12,7 +12,7 @@ use std::alloc::{AllocError, Global};
 use wire_bytes::Wire;
 use world_events::Event;
 
-/// The events of a text, one a line, each with its end. They may be written again.
+/// The events of a text, one a line, each with its end. They can be written again.
 pub fn parse_events<B: Wire>(
     alloc: Global,
     text: &[u8],

@@ -4,8 +4,8 @@ use thiserror::Error;
 /// Why a text gives no events.
 #[derive(Clone, Copy, Debug, Drop, PartialEq, Eq, Error)]
 pub enum EventsFault {
-    /// The line of this number, from 1, is the first that is no event; a last line without its end
-    /// is none.
+    /// The line of this number, from 1, is the first that is no event; neither is a last line
+    /// without its end.
     #[error("BadLine({0})")]
     BadLine(u64),
     /// There was no memory.

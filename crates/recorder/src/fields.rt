@@ -8,7 +8,7 @@ use itoa::Buffer;
 use raft_log::NodeId;
 use std::str::from_utf8;
 
-/// The number of these decimal digits, without a zero before others.
+/// The number of these decimal digits, without leading zeros.
 pub fn read_number(bytes: &[u8]) -> Option<u64>
     ensures { ReadsAs decimal IsWord bytes.now result }
 {
@@ -20,7 +20,7 @@ pub fn read_number(bytes: &[u8]) -> Option<u64>
         Ok(number) => number,
         Err(_) => return None,
     };
-    // A plus and zeros before others are read too: what is written of the number tells.
+    // A plus and leading zeros are parsed too, so the number is written again and compared.
     if is_text_of(number, bytes) {
         Some(number)
     } else {
@@ -28,7 +28,7 @@ pub fn read_number(bytes: &[u8]) -> Option<u64>
     }
 }
 
-/// Whether this is what is written of a number.
+/// Whether this is how a number is written.
 fn is_text_of(number: u64, bytes: &[u8]) -> bool
     ensures same { IsTrue result → decimal number ≡ bytes.now }
     ensures other { result ≡ false → decimal number ≢ bytes.now }
@@ -51,7 +51,7 @@ pub fn read_node(bytes: &[u8]) -> Option<NodeId>
     }
 }
 
-/// The node at the front, and what follows it behind a space.
+/// The node at the front, and what follows it after a space.
 pub fn node_first(bytes: &[u8]) -> Option<(NodeId, &[u8])>
     ensures { ReadsAs node_text NodeFits bytes.now
         (option_map (λ p. (p.0, p.1.now)) result) }
@@ -65,7 +65,7 @@ pub fn node_first(bytes: &[u8]) -> Option<(NodeId, &[u8])>
     }
 }
 
-/// The number at the front, and what follows it behind a space.
+/// The number at the front, and what follows it after a space.
 pub fn number_first(bytes: &[u8]) -> Option<(u64, &[u8])>
     ensures { ReadsAs number_text NumberFits bytes.now
         (option_map (λ p. (p.0, p.1.now)) result) }

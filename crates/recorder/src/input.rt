@@ -1,4 +1,4 @@
-//! What happens to one node, read.
+//! Reading what happens to one node.
 ghost use Rattle.std.specs.Prelude.{IfOk};
 ghost use Rattle.recorder.specs.declared.kind.Kind.TheVariants.{Ask, Deliver, Heard, Look};
 ghost use Rattle.recorder.specs.InputReadings.{FitsInput, ReadsFields, text_of_input};
@@ -14,7 +14,7 @@ use std::alloc::{AllocError, Global};
 use wire_bytes::{LAST_SECOND, Moment, Wire};
 use world_events::Input;
 
-/// What happens, as its line without its end tells.
+/// What happens, from a line without its end.
 pub fn read_input<B: Wire>(
     alloc: Global,
     line: &[u8],
@@ -31,7 +31,7 @@ pub fn read_input<B: Wire>(
     }
 }
 
-/// What happens, of this kind, with these fields behind its word.
+/// What happens, of this kind, from the fields after its word.
 fn read_fields<B: Wire>(
     alloc: Global,
     kind: Kind,
@@ -71,7 +71,7 @@ fn read_fields<B: Wire>(
     }
 }
 
-/// The node and the number of its message that comes.
+/// The node and the number of the message that arrives.
 fn read_deliver<B: Wire>(rest: &[u8]) -> Option<Input<B, WireLine, Name>>
     ensures { ReadsFields B.spelled B.fits Deliver rest.now result }
 {
@@ -84,7 +84,7 @@ fn read_deliver<B: Wire>(rest: &[u8]) -> Option<Input<B, WireLine, Name>>
     }
 }
 
-/// The node and the body that it is asked.
+/// The node and the body that is requested.
 fn read_ask<B: Wire>(
     alloc: Global,
     rest: &[u8],

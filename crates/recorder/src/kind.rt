@@ -3,7 +3,7 @@ ghost use Rattle.recorder.specs.Kinds.{kind_of_word, word};
 
 use irc_line::is_same;
 
-/// What an event's line begins with.
+/// The kinds of events by the word with which their lines begin.
 #[derive(Clone, Copy, Debug, PartialEq, Eq)]
 pub enum Kind {
     Timeout,
@@ -19,7 +19,7 @@ pub enum Kind {
 }
 
 impl Kind {
-    /// The word that lines of this kind begin with.
+    /// The word with which lines of this kind begin.
     pub fn word(self) -> &'static [u8]
         ensures { result.now ≡ word self }
     {

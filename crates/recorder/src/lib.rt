@@ -1,7 +1,6 @@
-//! Events, what leaves by them, and what nodes are after them, as lines of text.
-//! Stands under world_lines, records and fold_app.
-//! What is parsed of a text are the events whose lines it is, or the first line that is no event is named; no two lists
-//! of events have one text.
+//! Events, their effects, and the state of nodes after them, as lines of text. Used by world_lines, records and
+//! fold_app. Parsing a text gives the events whose lines it consists of, or names the first line that is no event; no
+//! two lists of events have one text.
 #![tactic(auto)]
 
 mod backwards;

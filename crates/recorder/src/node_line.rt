@@ -1,4 +1,4 @@
-//! What a node is, as a line of text.
+//! The state of a node, as a line of text.
 ghost use Rattle.std.specs.Prelude.{◌≡◌, ◌++◌, [], decimal, OnOk};
 ghost use Rattle.raft_log.specs.Seen.{seen};
 ghost use Rattle.recorder.specs.NodeLines.{fields_line, node_line, place_words, role_word};
@@ -9,7 +9,7 @@ use raft_log::{NodeId, NodeState, Role};
 use std::alloc::AllocError;
 use wire_bytes::{Number, Wire};
 
-/// What the line of a node tells of it.
+/// What the line of a node says.
 #[derive(Clone, Copy, Debug, PartialEq, Eq)]
 pub struct NodeFields {
     pub role: Role,
@@ -17,7 +17,7 @@ pub struct NodeFields {
     pub vote: Option<NodeId>,
     /// How many entries its log has.
     pub log: Number,
-    /// The term of the last entry, 0 where there is none.
+    /// The term of the last entry, 0 if there is none.
     pub last: Number,
     /// The place up to which it committed.
     pub commit: Number,
@@ -28,7 +28,7 @@ pub struct NodeFields {
 impl NodeFields {
     ghost use Rattle.recorder.specs.NodeLines.{fields_of};
 
-    /// What the line of a node in this state tells.
+    /// What the line of a node in this state says.
     pub fn of<B: Wire>(state: &NodeState<B>) -> NodeFields
         ensures { result ≡ fields_of (seen state.now []) }
     {
@@ -57,7 +57,7 @@ pub fn push_node<B: Wire>(
     push_fields(out, node, &NodeFields::of(state))
 }
 
-/// Appends the line that tells this of a node, with its end. After an error a part of it may have
+/// Appends the line that says this of a node, with its end. After an error a part of it may have
 /// been appended.
 pub fn push_fields(out: &mut Vec<u8>, node: NodeId, fields: &NodeFields) -> Result<(), AllocError>
     ensures { OnOk result (out.new.items ≡ out.old.items ++ fields_line node fields.now) }
@@ -69,7 +69,7 @@ pub fn push_fields(out: &mut Vec<u8>, node: NodeId, fields: &NodeFields) -> Resu
     push_places(out, fields.commit, fields.applied)
 }
 
-/// Appends up to which places a node committed and applied, and the end of its line.
+/// Appends the places up to which a node committed and applied, and the end of its line.
 fn push_places(out: &mut Vec<u8>, commit: Number, applied: Number) -> Result<(), AllocError>
     ensures { OnOk result (out.new.items ≡ out.old.items ++ place_words commit applied) }
 {
@@ -107,7 +107,7 @@ fn role_text(role: Role) -> &'static [u8]
     }
 }
 
-/// The node that was voted for, 0 where there is none.
+/// The node that was voted for, 0 if none was.
 fn vote_value(vote: Option<NodeId>) -> u64
     ensures { result ≡ vote_number vote }
 {

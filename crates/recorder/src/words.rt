@@ -11,7 +11,7 @@ use irc_line::{Line, Name};
 use std::alloc::{AllocError, Global};
 use wire_bytes::{Wire, WireFault};
 
-/// The body of these lower-case hex digits, nothing before or behind it.
+/// The body of these lower-case hex digits, with nothing before or after it.
 pub fn read_body<B: Wire>(alloc: Global, digits: &[u8]) -> Result<Option<B>, AllocError>
     ensures { IfOk result
         (ReadsAs (digits_of B.spelled) (FitsDigits B.fits B.spelled) digits.now) }
@@ -23,14 +23,14 @@ pub fn read_body<B: Wire>(alloc: Global, digits: &[u8]) -> Result<Option<B>, All
         Err(FromHexError::InvalidStringLength) => return Ok(None),
         Err(FromHexError::InvalidHexCharacter { .. }) => return Ok(None),
     };
-    // Capitals are read too: what is written of the bytes tells.
+    // Capitals are decoded too, so the bytes are written again and compared.
     if !is_written(alloc, &bytes, digits)? {
         return Ok(None);
     }
     read_whole(alloc, &bytes)
 }
 
-/// Whether these digits are what is written of bytes.
+/// Whether this is how bytes are written in digits.
 fn is_written(alloc: Global, bytes: &[u8], digits: &[u8]) -> Result<bool, AllocError>
     ensures same { IfOk result (λ b. IsTrue b → encode_lower bytes.now ≡ digits.now) }
     ensures other { IfOk result (λ b. b ≡ false → encode_lower bytes.now ≢ digits.now) }
@@ -39,7 +39,7 @@ fn is_written(alloc: Global, bytes: &[u8], digits: &[u8]) -> Result<bool, AllocE
     Ok(written.as_bytes() == digits)
 }
 
-/// The value that bytes spell, nothing behind it.
+/// The value that bytes spell, with nothing after it.
 fn read_whole<B: Wire>(alloc: Global, bytes: &[u8]) -> Result<Option<B>, AllocError>
     ensures { IfOk result (ReadsAs B.spelled B.fits bytes.now) }
 {

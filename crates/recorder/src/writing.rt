@@ -1,4 +1,4 @@
-//! Events, written.
+//! Writing events.
 ghost use Rattle.std.specs.Prelude.{◌≡◌, ◌++◌, ◌∷◌, decimal, IfOk, OnOk};
 ghost use Rattle.hex.specs.Hex.{IsBytes, encode_lower};
 ghost use Rattle.recorder.specs.EventLists.{AreOf, AreWritable};
@@ -31,8 +31,7 @@ pub fn write_events<B: Wire>(
     Ok(out)
 }
 
-/// Appends an event, as its line without its end tells. After an error a part of it may have been
-/// appended.
+/// Appends an event as a line without its end. After an error a part of it may have been appended.
 pub fn push_event<B: Wire>(
     alloc: Global,
     out: &mut Vec<u8>,
@@ -61,8 +60,8 @@ pub fn push_event<B: Wire>(
     }
 }
 
-/// Appends what happens, as its line without its end tells. After an error a part of it may have
-/// been appended.
+/// Appends what happens as a line without its end. After an error a part of it may have been
+/// appended.
 pub fn push_input<B: Wire>(
     alloc: Global,
     out: &mut Vec<u8>,

@@ -1,4 +1,4 @@
--- What is so of a change of the setup.
+-- What holds of a change of the setup.
 use Rattle.std.proofs.Common.{◌≡◌, ℕ, zero, suc, ◌≤◌, ◌-◌, List, [], ◌∷◌, length, map, refl, ap, ◌∙◌, sym, Bool, true, false, not, ◌&&◌, ◌||◌, drop, arith}
 use Rattle.std.specs.Prelude.{◌==◌, if◌then◌else◌, filter, replicate}
 use Rattle.std.specs.List.{list_all}
@@ -51,7 +51,7 @@ all_more p q f (x ∷ xs) e = all_more_by p q x xs (p x) refl (f x) e (all_more 
 drop_none : {A : Type 0} (n : ℕ) (xs : List A) → length xs ≤ n → drop (length xs - n) xs ≡ xs
 drop_none n xs h = let none : length xs - n ≡ 0 = omega arith in rw none refl
 
--- ---- by which channels the own nick was in
+-- ---- which channels the own nick was in
 
 pub moved_was : (s t : Settings) (forgotten : List (List ℕ)) (p q : List ℕ → Bool) → ((k : List ℕ) → p k ≡ q k) → (h : Held) → moved s t forgotten p h ≡ moved s t forgotten q h
 moved_was s t forgotten p q f h =
@@ -150,7 +150,7 @@ none_added s cs =
 holding_same : (n : List ℕ) (a b : List Origin) (x y : Names) (c d : List ChannelLines) (q r : List TargetLines) → a ≡ b → x ≡ y → c ≡ d → q ≡ r → holding n a x c q ≡ holding n b y d r
 holding_same n a b x y c d q r e f g h = cc
 
--- what nobody is attached to, and no channel is joined of, stays as it is
+-- if nobody is attached and no channel is joined, what is held stays the same
 pub same_setup : (s : Settings) (was : List ℕ → Bool) (h : List Command) → attached s h ≡ [] → ((c : List ℕ) → joined s h c ≡ false) → moved s s [] was (held s h) ≡ held s h
 same_setup s was h gone parted =
     let gs : List Bool = goes [] (ids s h) in

@@ -30,7 +30,7 @@ use Rattle.buffer_machine.proofs.Unknown.{removed-is}
 use Rattle.bouncer_tower.specs.Bodies.{Sessioned, TowerBody, accepted, client, plain, session, unclaimed}
 use Rattle.renewal.specs.Lists.{AreNoted, WereNoted, joined_names, last_live, may_end}
 
--- ---- a channel that is not known is not joined
+-- ---- an unknown channel is not joined
 
 gone_or_not : {P : Type 0} (made was removed : Bool) → ((made || was) && not removed) ≡ false → (was ≡ false → made ≡ false → P) → (removed ≡ true → P) → P
 gone_or_not made was true e f g = g refl

@@ -1,4 +1,4 @@
--- What is held the same stays the same, whatever comes.
+-- Two machines that hold the same still do after any further commands.
 use Rattle.std.proofs.Common.{◌≡◌, ℕ, ◌<◌, List, [], ◌∷◌, ◌++◌, refl, ap, ◌∙◌, sym, Bool, true, false, ◌||◌}
 use Rattle.std.specs.Prelude.{Option, Some, None, if◌then◌else◌, find, unwrap_or}
 use Rattle.irc_line.specs.Keys.{at_key, is_in}
@@ -22,7 +22,7 @@ use Rattle.buffer_machine.proofs.Found.{channel_under, target_under, channel-fou
 use Rattle.buffer_machine.proofs.Playing.{lines_by, played-is, played-lines, played_by-both, standing-is}
 use Rattle.renewal.specs.Renewed.{AreWithinLimits, MeansTheSame}
 
--- the floors of all nodes that there may be are the same
+-- the floors of all possible nodes are the same
 abbrev pub SameFloors : List Command → List Command → Type 0
 SameFloors old new = (node : ℕ) → node < 8 → floor new node ≡ floor old node
 
@@ -55,11 +55,11 @@ effects-later s sound later old new x f e w =
     ∙ (ap (λ h. answers s (floor_now (later ++ old) x) h x) (held-later s sound later old new f e w.1)
     ∙ effects-step s sound (later ++ old) x))
 
--- what is played of all that is held
+-- what is played back from all that is held
 playback-same : (s : Settings) (old new : List Command) (t : List ℕ) → held s new ≡ held s old → playback s new t ≡ playback s old t
 playback-same s old new t e = sym (played-is s new t) ∙ (ap (λ h. played_of s.offset (target_of_key t h)) e ∙ played-is s old t)
 
--- what is played of it to a name
+-- what is played back from it to a name
 
 abbrev played_at : ℕ → Option ℕ → Option TargetLines → List Parts
 played_at offset i None = []
@@ -97,7 +97,7 @@ played_in-is s history n k =
 named-same : (s : Settings) (old new : List Command) (n : Option (List ℕ)) (k : List ℕ) → held s new ≡ held s old → playback_by s new n k ≡ playback_by s old n k
 named-same s old new n k e = sym (played_in-is s new n k) ∙ (ap (played_in s.offset n k) e ∙ played_in-is s old n k)
 
--- the same is held, so that the same is meant
+-- where the same is held, the two lists mean the same
 pub means_the_same : (s : Settings) (old new : List Command) → IsSound s → SameFloors old new → held s new ≡ held s old → MeansTheSame s old new
 means_the_same s old new sound f e = record {
   brought = λ later x w. effects-later s sound later old new x f e w;

@@ -1,4 +1,4 @@
--- What is so where all went well.
+-- What holds on success.
 use Rattle.std.proofs.Common.{Bool, IsTrue}
 use Rattle.std.specs.Prelude.{Result, Ok, Err, IfOk, OnOk}
 

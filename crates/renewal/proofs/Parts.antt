@@ -1,4 +1,4 @@
--- What the same that is held says of each part.
+-- Where two machines hold the same, each part is the same.
 use Rattle.std.proofs.Common.{◌≡◌, ℕ, List, [], ◌∷◌, map, refl, ap, ◌∙◌, sym, Bool, true, false, ◌||◌, drop}
 use Rattle.std.specs.Prelude.{Option, Some, None, find, slice_index}
 use Rattle.irc_line.specs.Keys.{at_key, is_in}

@@ -1,4 +1,4 @@
--- What is settled: no channel is joined then.
+-- After settling no channel is joined.
 use Rattle.std.proofs.Common.{◌≡◌, ℕ, List, [], ◌∷◌, ◌++◌, refl, ap, ◌∙◌, map, false}
 use Rattle.machine_laws.specs.Runs.{History, came_at}
 use Rattle.request_once.specs.Fresh as requests
@@ -17,7 +17,7 @@ came_last : {C : Type 0} (place : ℕ) (xs : List C) (c : C) (h : History C) →
 came_last place [] c h = refl
 came_last place (x ∷ xs) c h = came_last place xs c ((place, x) ∷ h)
 
--- a command of the buffers comes to them
+-- a command of the buffers reaches them
 plain-more : (place : ℕ) (c : Command) (h : History TowerBody) → plain ((place, of_buffers c) ∷ h) ≡ (place, c) ∷ plain h
 unfolding plain unclaimed accepted requests.plain requests.fresh lines.plain sessions.plain sessions.commands
 plain-more place c h = refl

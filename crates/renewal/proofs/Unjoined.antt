@@ -1,4 +1,4 @@
--- No channel is joined behind a new list.
+-- No channel is joined after a new list.
 use Rattle.std.proofs.Common.{◌≡◌, ℕ, List, [], ◌∷◌, ◌++◌, map, refl, ap, ◌∙◌, sym, Bool, false}
 use Rattle.std.specs.Prelude.{filter}
 use Rattle.irc_line.specs.Keys.{is_in}

@@ -1,4 +1,5 @@
--- What is held under a new setup, by what was held under an old one. Names and channels go by their keys, which are folded names.
+-- What is held under a new setup, given what was held under an old one. Names and channels are identified by their
+-- keys, which are folded names.
 use Rattle.std.specs.Prelude.{ℕ, zero, suc, Bool, true, false, not, ◌&&◌, ◌||◌, ◌==◌, if◌then◌else◌, List, [], ◌∷◌, ◌++◌, map, filter, replicate}
 use Rattle.irc_line.specs.Names.{fold_name}
 use Rattle.irc_line.specs.Keys.{is_below, is_in}
@@ -9,18 +10,18 @@ use Rattle.buffer_machine.specs.Held.{Held, holding, names_of}
 
 -- Names of clients
 
--- of each name, whether it is forgotten
+-- for each name, whether it is forgotten
 abbrev pub goes : List (List ℕ) → List (List ℕ) → List Bool
 goes forgotten ids = map (λ id. is_id_in id forgotten) ids
 
--- what stays of a list, by what of it goes
+-- what stays of a list, given for each item whether it goes
 abbrev pub staying : {A : Type 0} → List Bool → List A → List A
 staying [] xs = []
 staying (g ∷ gs) [] = []
 staying (true ∷ gs) (x ∷ xs) = staying gs xs
 staying (false ∷ gs) (x ∷ xs) = x ∷ staying gs xs
 
--- so many numbers: these, and 0 for all further ones
+-- this many numbers: these, and then 0
 abbrev pub filled : ℕ → List ℕ → List ℕ
 filled count [] = replicate count 0
 filled zero (n ∷ ns) = []
@@ -32,18 +33,19 @@ seen_moved gone seen = filled id_limit (staying gone seen)
 
 -- Targets
 
--- a size: the setup's is that of the new one, and another stays
+-- a size: that of the old setup becomes that of the new one, any other stays
 abbrev pub size_moved : ℕ → ℕ → ℕ → ℕ
 size_moved old new n = if n == old then new else n
 
--- a target with the newest of its lines, as many as its size lets, and with what the names that stay have seen of them
+-- a target, with how many of its lines the names that stay have seen
 abbrev pub with_seen : List Bool → TargetLines → TargetLines
 with_seen gone t = target t.name t.lines (seen_moved gone t.seen)
 
+-- a target with its new size, which keeps the newest of its lines
 abbrev pub target_moved : ℕ → ℕ → List Bool → TargetLines → TargetLines
 target_moved old new gone t = with_seen gone (resized (size_moved old new t.lines.size) t)
 
--- a channel that the own nick is not in, as it is shown
+-- a channel that the own nick is not in, whose name and detachment stay
 abbrev pub channel_moved : ℕ → ℕ → List Bool → ChannelLines → ChannelLines
 channel_moved old new gone c = channel (target_moved old new gone c.target) false c.detached
 
@@ -53,11 +55,11 @@ channel_moved old new gone c = channel (target_moved old new gone c.target) fals
 abbrev pub key_of : ChannelLines → List ℕ
 key_of c = fold_name c.target.name
 
--- a channel stays, but for one that the old setup names, the new one doesn't, and the own nick was not in
+-- a channel stays, unless the old setup names it, the new one doesn't, and the own nick was not in it
 abbrev pub is_staying : Settings → Settings → (List ℕ → Bool) → ChannelLines → Bool
 is_staying s t was c = not (is_in (key_of c) s.channels) || (is_in (key_of c) t.channels || was (key_of c))
 
--- the channels that the new setup names, the old one doesn't, and that are not there
+-- the channels that the new setup names, the old one doesn't, and that do not exist
 abbrev pub is_added : Settings → List ChannelLines → List ℕ → Bool
 is_added s cs name = not (is_in (fold_name name) s.channels) && not (has_channel (fold_name name) cs)
 
@@ -78,8 +80,8 @@ abbrev pub comes_before : List ℕ → List (List ℕ) → Bool
 comes_before key [] = false
 comes_before key (n ∷ ns) = is_below (fold_name n) key
 
--- channels, and in front of each the new ones whose names come before it, with so many lines to keep and none kept: in rising order
--- of their keys, where both are
+-- channels, and before each of them the new ones whose names come before it, each of this size and empty: in rising
+-- order of their keys, if both lists are
 abbrev pub merged : ℕ → List (List ℕ) → List ChannelLines → List ChannelLines
 merged size names [] = unjoined size names
 merged size names (c ∷ cs) = unjoined size (before (key_of c) names) ++ c ∷ merged size (not_before (key_of c) names) cs
@@ -91,12 +93,13 @@ channels_moved s t gone was cs =
 
 -- Queries
 
--- past the most that there may be, the oldest made go
+-- past the most queries allowed, the ones made first are dropped
 abbrev pub queries_moved : Settings → Settings → List Bool → List TargetLines → List TargetLines
 queries_moved s t gone ts = map (target_moved s.query_size t.query_size gone) (newest t.most_queries ts)
 
--- All of it, by the old setup and the new one, by the names of clients that are forgotten, and by whether the own nick was in the channel
--- of a key when a session was last in force: the own nick stays, nobody is attached, and no channel is joined
+-- All of it, given the old setup and the new one, the names of clients that are forgotten, and whether the own nick was
+-- in the channel of a key when a session was last in force: the own nick stays, nobody is attached, and no channel is
+-- joined
 abbrev pub moved : Settings → Settings → List (List ℕ) → (List ℕ → Bool) → Held → Held
 moved s t forgotten was h =
     let gone = goes forgotten h.names.ids in

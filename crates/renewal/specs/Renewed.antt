@@ -1,4 +1,4 @@
--- What it means that a list of commands is begun anew. Lists of commands have the newest first.
+-- What it means that a list of commands is renewed. Lists of commands have the newest first.
 use Rattle.std.specs.Prelude.{◌≡◌, ℕ, ◌<◌, true, List, [], ◌∷◌, ◌++◌, ⊤}
 use Rattle.buffer_commands.specs.Settings.{Settings}
 use Rattle.buffer_commands.specs.declared.command.Command.{Command}
@@ -9,21 +9,21 @@ use Rattle.buffer_machine.specs.Marks.{playback_for, unseen}
 use Rattle.buffer_machine.specs.Steps.{IsWithinLimits}
 use Rattle.irc_line.specs.Keys.{is_in}
 
--- commands whose clients' nodes are of 1 to 7, as the types of a command keep
+-- commands whose clients' nodes are 1 to 7, as the types of a command guarantee
 abbrev pub AreWithinLimits : List Command → Type 0
 AreWithinLimits [] = ⊤
 AreWithinLimits (x ∷ xs) = IsWithinLimits x × AreWithinLimits xs
 
--- Whatever comes behind the one list brings about what it would behind the other, and all is played the same: now, and after any
--- further commands
+-- Whatever comes after the one list brings about what it would after the other, and all is played back the same: now,
+-- and after any further commands
 pub record MeansTheSame (s : Settings) (old new : List Command) : Type 0 where
   pub brought : (later : List Command) (x : Command) → AreWithinLimits (x ∷ later) → effects s (later ++ new) x ≡ effects s (later ++ old) x
   pub played : (later : List Command) (t : List ℕ) → AreWithinLimits later → playback s (later ++ new) t ≡ playback s (later ++ old) t
   pub played_for : (later : List Command) (id t : List ℕ) → AreWithinLimits later → playback_for s (later ++ new) id t ≡ playback_for s (later ++ old) id t
 
--- The one list leaves behind what the other does, and nobody is attached after either: the own nick, the floors and the names of clients; the
--- channels and queries in their order, as they are spelled; of each of these whether it is joined and detached, its size, what it
--- keeps, and what each name has not seen of it
+-- The one list leads to the same as the other, and nobody is attached after either: the own nick, the floors and the
+-- names of clients; the channels and queries in their order, with their names as written; for each of these whether it
+-- is joined and detached, its size, what it keeps, and what each name has not seen of it
 pub record Renewed (s : Settings) (old new : List Command) : Type 0 where
   pub gone : attached s old ≡ []
   pub nobody : attached s new ≡ []

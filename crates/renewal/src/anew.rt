@@ -1,4 +1,4 @@
-//! A list begun anew.
+//! Renewing a list.
 ghost use Rattle.std.specs.Prelude.{◌≡◌, ◌≢◌, ◌≤◌, List, length, false, true, IfErr, IfOk, IsTrue, OnOk};
 ghost use Rattle.irc_line.specs.Keys.{is_in};
 ghost use Rattle.machine_laws.specs.Runs.{History, came_at, run};
@@ -30,10 +30,10 @@ use std::collections::VecDeque;
 use upstream_claim::ClaimsCommand;
 use wire_bytes::Number;
 
-/// A list of bodies that leaves behind what the layers do, once the runs of these nodes below their floors are gone
-/// and no session is in force, as it is moved to another setup. After it the layers stand so, or are to be thrown
-/// away. `UnknownName` where no client has a name that is to be forgotten, `NotTheSame` where no such list is found,
-/// `TooLong` where it would have too many bodies: nothing is lost then, since nothing was written.
+/// A list of bodies that leads to the same as the layers, moved to another setup, once the runs of these nodes below
+/// their floors are gone and no session is in force. The layers are then in that state, or must be thrown away.
+/// `UnknownName` if no client has a name that is to be forgotten, `NotTheSame` if no such list is found, `TooLong` if
+/// it would have too many bodies: nothing is lost then, since nothing was written.
 pub fn begun_anew(
     alloc: Global,
     change: &Change,
@@ -75,7 +75,7 @@ pub fn begun_anew(
     Ok(bodies)
 }
 
-/// The runs of these nodes below their floors are gone, and no session is in force.
+/// Applies that the runs of these nodes below their floors are gone, and that no session is in force.
 fn settle(alloc: Global, layers: &mut Layers, floors: &[(u8, Number)]) -> Result<(), AllocError>
     ensures { (s : Settings) (old : History TowerBody)
         → ⟦<Layers as Machine>⟧.stands layers.old s old
@@ -96,7 +96,7 @@ fn knows(layers: &Layers, forgotten: &[Name]) -> bool
     are_known(forgotten, buffers_of(layers).ids())
 }
 
-/// At most so many bodies begin anew what the layers leave behind.
+/// How many bodies may renew what the layers hold.
 fn room(change: &Change, layers: &Layers, floors: &[(u8, Number)]) -> usize
     ensures { (old : History TowerBody)
         → ⟦<Layers as Machine>⟧.stands layers.now change.now.from.now old
@@ -111,7 +111,7 @@ fn room(change: &Change, layers: &Layers, floors: &[(u8, Number)]) -> usize
     most_bodies(buffers_of(layers), others)
 }
 
-/// A list of bodies that leaves behind what the layers do, as it is moved.
+/// A list of bodies that leads to the same as the layers, moved to another setup.
 fn moved_list(
     alloc: Global,
     change: &Change,
@@ -137,7 +137,7 @@ fn moved_list(
     }
 }
 
-/// The commands come one behind the other. What they bring about goes nowhere, so that their place is of no matter.
+/// Applies the commands one after the other. Their effects are dropped, so that their place does not matter.
 fn come<M: Machine>(machine: &mut M, commands: &[M::Command]) -> Result<(), ApplyFault>
     ensures { (s : M.Setup) (h : History M.Command) → M.stands machine.old s h
         → OnOk result (M.stands machine.new s (came_at 0 commands.now h)) }
@@ -151,7 +151,7 @@ fn come<M: Machine>(machine: &mut M, commands: &[M::Command]) -> Result<(), Appl
     }
 }
 
-/// The same of commands that are these.
+/// Applies these commands, given in another form.
 fn come_as<M: Machine>(machine: &mut M, commands: &[M::Command]) -> Result<(), ApplyFault>
     ensures { (s : M.Setup) (h : History M.Command) (xs : List M.Command) → commands.now ≡ xs
         → M.stands machine.old s h → OnOk result (M.stands machine.new s (came_at 0 xs h)) }
@@ -159,7 +159,7 @@ fn come_as<M: Machine>(machine: &mut M, commands: &[M::Command]) -> Result<(), A
     come(machine, commands)
 }
 
-/// The bodies by which the runs of these nodes below their floors are gone, and no session is in force.
+/// The bodies that say that the runs of these nodes below their floors are gone, and that no session is in force.
 fn settling(alloc: Global, floors: &[(u8, Number)]) -> Result<Vec<TowerBody>, AllocError>
     ensures { IfOk result (λ v. v.items ≡ settling floors.now) }
 {
@@ -196,8 +196,8 @@ fn waiting_of(layers: &Layers) -> &VecDeque<Line>
     layers.machine().waiting()
 }
 
-/// Whether these bodies, to which alone the new layers came and that one leader brings, begin anew what the old ones
-/// leave behind.
+/// Whether these bodies, which are all that came to the new layers and which one leader brings, renew what the old
+/// layers hold.
 fn is_begun_anew(
     alloc: Global,
     change: &Change,

@@ -1,4 +1,4 @@
-//! How many bodies a new list has at the most.
+//! How many bodies a new list may have.
 ghost use Rattle.std.specs.Prelude.{◌≡◌, ◌≤◌, ◌+◌, ◌*◌, length, min};
 ghost use Rattle.machine_laws.specs.Runs.{History};
 ghost use Rattle.buffer_commands.specs.Settings.{Settings};
@@ -10,8 +10,8 @@ ghost use Rattle.renewal.specs.Bounds.{greatest_count, lines_of_channels, lines_
 use buffer_machine::BufferMachine;
 use buffer_targets::{Channel, Target};
 
-/// At most so many bodies bring about what the buffers hold; `others` are those for each channel of the setup, each
-/// line that waits and each node.
+/// The most bodies that bring about what the buffers hold; `others` are those for each channel of the setup, each line
+/// that waits and each node.
 pub fn most_bodies(buffers: &BufferMachine, others: usize) -> usize
     ensures { (s : Settings) (h : History Command) → Stands buffers.now s h
         → result ≤ most_bodies (held s (commands h)) others }
@@ -27,7 +27,7 @@ pub fn most_bodies(buffers: &BufferMachine, others: usize) -> usize
     )
 }
 
-/// What is behind each line, each channel, each query, each name, and each name and channel.
+/// The most bodies, counted for each line, each channel, each query, each name, and each name and channel.
 fn most_of(
     channel_lines: usize,
     query_lines: usize,

@@ -11,7 +11,8 @@ use session_fence::FenceCommand;
 use upstream_claim::ClaimsCommand;
 use wire_bytes::{Number, SessionId};
 
-/// Whether all bodies are of kinds that nodes bring: of a leader of one term, of one client, or that a node is gone.
+/// Whether all bodies are of kinds that nodes bring: from a leader of one term, from one client, or that a node is
+/// gone.
 pub fn are_brought(bodies: &[TowerBody], start: &Start) -> bool
     ensures { result ≡ list_all (is_brought start.now.term start.now.client) bodies.now }
 {

@@ -1,4 +1,4 @@
-//! From which setup to which a list is begun anew, and what goes and comes by that.
+//! From which setup to which a list is renewed, and what is dropped and added by that.
 ghost use Rattle.std.specs.Prelude.{◌≡◌, ◌-◌, IfOk, OnOk, map};
 ghost use Rattle.std.specs.List.{list_all};
 ghost use Rattle.irc_line.specs.Keys.{is_in};
@@ -12,7 +12,7 @@ use buffer_targets::{Channel, Target};
 use irc_line::{Name, is_same, is_same_name};
 use std::alloc::{AllocError, Global};
 
-/// From which setup to which a list is begun anew.
+/// From which setup to which a list is renewed.
 #[derive(Clone, Copy)]
 pub struct Change<'a> {
     pub from: &'a Setup,
@@ -23,7 +23,7 @@ pub struct Change<'a> {
     pub joined: &'a [Name],
 }
 
-/// How many lines a target keeps by the old setup, and by the new one.
+/// How many lines a target keeps under the old setup, and under the new one.
 #[derive(Clone, Copy)]
 pub struct Sizes {
     pub from: usize,
@@ -76,7 +76,7 @@ pub fn are_known(forgotten: &[Name], ids: &[Name]) -> bool
     forgotten.iter().all(|id| is_id_among(id, ids))
 }
 
-/// Of each name, whether it is forgotten.
+/// For each name, whether it is forgotten.
 pub fn goes(alloc: Global, forgotten: &[Name], ids: &[Name]) -> Result<Vec<bool>, AllocError>
     ensures { IfOk result (λ v. v.items ≡ goes forgotten.now ids.now) }
 {
@@ -122,7 +122,7 @@ fn is_added(name: &Name, channels: &[Channel], change: &Change) -> bool
     !is_among(name, change.from.channels()) && !is_there(name, channels)
 }
 
-/// The channels of the new setup that neither the old one names nor are there.
+/// The channels of the new setup that the old one does not name and that do not exist.
 pub fn added(alloc: Global, channels: &[Channel], change: &Change) -> Result<Vec<Name>, AllocError>
     ensures { IfOk result (λ v. v.items ≡
         added change.now.from.now change.now.to.now channels.now) }
@@ -136,7 +136,7 @@ pub fn added(alloc: Global, channels: &[Channel], change: &Change) -> Result<Vec
     Ok(names)
 }
 
-/// The queries that stay: past the most that there may be, the oldest made go.
+/// The queries that stay: past the most queries allowed, the ones made first are dropped.
 pub fn newest<'a>(queries: &'a [Target], change: &Change) -> &'a [Target]
     ensures { result.now ≡ newest change.now.to.now.most_queries queries.now }
 {

@@ -1,4 +1,4 @@
-//! A list of bodies in the making: those that a leader of one term brings for one client.
+//! A list of bodies that is being made: those that a leader of one term brings for one client.
 ghost use Rattle.std.specs.Prelude.{◌≡◌, ◌≤◌, ◌^◌, IfOk};
 
 use crate::fault::ProposalFault;
@@ -11,8 +11,8 @@ use std::alloc::Global;
 use upstream_claim::ClaimsCommand;
 use wire_bytes::{LAST_NUMBER, Moment, Number, Origin, SessionId};
 
-/// Whose bodies a new list has: those of a leader of a term, and of one client of a run. No older list has any of
-/// this term, or of this run.
+/// Whose bodies a new list has: those of a leader of a term, and of one client of a run. No older list has any bodies
+/// of this term or this run.
 #[derive(Clone, Copy)]
 pub struct Start {
     pub term: Number,
@@ -26,7 +26,7 @@ pub struct Draft {
     term: Number,
     client: Origin,
     bodies: Vec<TowerBody>,
-    /// The attempts of the term, the lines of the session, the client's requests, and the lines that it sent.
+    /// How many attempts the term has had, lines the session, requests the client, and lines it has sent.
     sessions: u64,
     heard: u64,
     asked: u64,
@@ -35,7 +35,7 @@ pub struct Draft {
     attached: bool,
 }
 
-/// A number, where it is within its limit.
+/// A number, if it is within its limit.
 fn number(value: u64) -> Result<Number, ProposalFault>
     ensures { IfOk result (λ n. n ≡ value) }
 {
@@ -45,7 +45,7 @@ fn number(value: u64) -> Result<Number, ProposalFault>
     Ok(Number::new(value))
 }
 
-/// The moment of requests that keep no line.
+/// The moment of requests that store no line.
 fn no_moment() -> Moment {
     Moment::new(0)
 }
@@ -98,7 +98,7 @@ impl Draft {
         self.add(Body::Blank)
     }
 
-    /// The next session is opened.
+    /// Opens the next session.
     pub fn open(&mut self) -> Result<(), ProposalFault> {
         self.sessions = self.sessions.saturating_add(1);
         self.heard = 0;
@@ -106,20 +106,20 @@ impl Draft {
         self.add_of_session(FenceCommand::Opened(session))
     }
 
-    /// The session is shut: the own nick is in no channel.
+    /// Shuts the session: the own nick is then in no channel.
     pub fn shut(&mut self) -> Result<(), ProposalFault> {
         let session = self.session()?;
         self.add_of_session(FenceCommand::Shut(session))
     }
 
-    /// A line comes from upstream at a moment.
+    /// Adds a line from upstream, heard at a moment.
     pub fn hear(&mut self, at: Moment, line: WireLine) -> Result<(), ProposalFault> {
         self.heard = self.heard.saturating_add(1);
         let (session, place) = (self.session()?, number(self.heard)?);
         self.add_of_session(FenceCommand::Heard(session, place, at, line))
     }
 
-    /// A line of these bytes comes from upstream.
+    /// Adds a line of these bytes from upstream.
     pub fn hear_bytes(&mut self, bytes: &[u8]) -> Result<(), ProposalFault> {
         let line = match Line::parse(self.alloc, bytes) {
             Ok(line) => line,
@@ -130,7 +130,7 @@ impl Draft {
         self.hear(no_moment(), line)
     }
 
-    /// The server gives the own nick another name, unless it has it.
+    /// Lets the server give the own nick this name, unless it has it.
     pub fn be(&mut self, nick: &[u8]) -> Result<(), ProposalFault> {
         if is_same(&self.nick, nick) {
             return Ok(());
@@ -142,7 +142,7 @@ impl Draft {
         Ok(())
     }
 
-    /// The own nick is one that answers to a name.
+    /// Changes the own nick to this one, unless it is the same name in another case.
     pub fn answer_to(&mut self, nick: &[u8]) -> Result<(), ProposalFault> {
         if is_same_name(&self.nick, nick) {
             return Ok(());
@@ -150,7 +150,7 @@ impl Draft {
         self.be(nick)
     }
 
-    /// The client asks for something at a moment.
+    /// Adds a request of the client at a moment.
     pub fn ask_at(&mut self, at: Moment, action: Action) -> Result<(), ProposalFault> {
         self.asked = self.asked.saturating_add(1);
         let (client, place) = (self.client, number(self.asked)?);
@@ -161,7 +161,7 @@ impl Draft {
         self.ask_at(no_moment(), action)
     }
 
-    /// The session takes the line that the client sent, so that no later one does.
+    /// Claims the line that the client sent, so that no later session sends it.
     pub fn claim(&mut self) -> Result<(), ProposalFault> {
         self.sent = self.sent.saturating_add(1);
         let (session, place) = (self.session()?, number(self.sent)?);
@@ -172,7 +172,7 @@ impl Draft {
         self.attached
     }
 
-    /// The client attaches without a name.
+    /// Attaches the client without a name.
     pub fn attach(&mut self) -> Result<(), ProposalFault> {
         self.attached = true;
         self.ask(Action::Attach(None))
@@ -183,13 +183,13 @@ impl Draft {
         self.ask(Action::Leave)
     }
 
-    /// The client attaches by a name, and leaves: the name has seen all that is shown.
+    /// Attaches the client by a name, and lets it leave: the name has then seen all that is shown.
     pub fn look_in(&mut self, id: &Name) -> Result<(), ProposalFault> {
         self.ask(Action::Attach(Some(id.copy(self.alloc)?)))?;
         self.ask(Action::Leave)
     }
 
-    /// The runs of a node below this one are gone.
+    /// Says that the runs of a node below this one are gone.
     pub fn gone(&mut self, node: u8, floor: Number) -> Result<(), ProposalFault> {
         self.add_of_session(FenceCommand::Inner(Command::NodeGone(node, floor)))
     }

@@ -1,13 +1,13 @@
-//! Why a list is not begun anew.
+//! Why a list is not renewed.
 ghost use Rattle.std.specs.Prelude.{◌≡◌, ◌≢◌};
 
 use std::alloc::AllocError;
 use thiserror::Error;
 
-/// Why a list is not begun anew. The old list stands as it was.
+/// Why a list is not renewed. The old list is as it was.
 #[derive(Clone, Copy, Debug, Drop, PartialEq, Eq, Error)]
 pub enum RenewalFault {
-    /// The new list would not leave the same behind.
+    /// The new list would not lead to the same.
     #[error("the new log would not be the same: nothing was changed; keep the folder, and report it")]
     NotTheSame,
     /// The new list would have too many bodies.
@@ -16,8 +16,8 @@ pub enum RenewalFault {
     /// No client has a name that is to be forgotten.
     #[error("no client has that name: nothing was changed; 'bouncer check' lists the names of clients")]
     UnknownName,
-    /// A channel keeps a line that a client said and that is longer than one from upstream. Where playing empties
-    /// channels and no client has a name, a channel that clients are shown keeps no such line.
+    /// A channel keeps a line that a client said and that is longer than one from upstream. It can't be kept in a
+    /// channel that clients are shown, if playing empties channels and no client has a name.
     #[error("a channel keeps a line too long for this change: nothing was changed; leave auto_clear_chan_buffer and the names of clients as they are, or clear that channel first")]
     LongLine,
     /// Numbers would pass their limit.
@@ -41,7 +41,7 @@ impl From<AllocError> for RenewalFault {
 /// Why no list is proposed.
 #[derive(Clone, Copy, Debug, Drop, PartialEq, Eq)]
 pub enum ProposalFault {
-    /// What is held is not brought about by any list.
+    /// No list was found that leads to what is held.
     NotTheSame,
     LongLine,
     Spent,

@@ -1,5 +1,5 @@
-//! What is kept, brought about again where no client ever gave a name: attaching empties what it plays, so the
-//! client comes once, before the lines.
+//! Bringing about what is kept if no client ever gave a name. Attaching empties what it plays, so the client attaches
+//! once, before the lines come.
 use crate::change::{Change, Sizes, channel_sizes, query_sizes};
 use crate::draft::Draft;
 use crate::fault::ProposalFault;
@@ -10,8 +10,8 @@ use buffer_targets::{Channel, Target};
 use irc_line::Line;
 use std::collections::VecDeque;
 
-/// The channels and queries that stand there without lines get their sizes and their lines, and lines wait again. No
-/// name is known.
+/// Gives the channels and queries, which have no lines yet, their sizes and their lines, and lets the lines for
+/// upstream wait again. No name is known.
 pub fn keep_all(
     draft: &mut Draft,
     change: &Change,
@@ -31,7 +31,7 @@ pub fn keep_all(
     Ok(())
 }
 
-/// The attached client lets go what the queries were made with, and gives each target its size.
+/// Lets the attached client clear the lines with which the queries were made, and give each target its size.
 pub fn set_sizes(draft: &mut Draft, change: &Change, kept: &Kept) -> Result<(), ProposalFault> {
     draft.ask(Action::ClearQueries)?;
     for query in kept.queries {
@@ -52,7 +52,7 @@ fn set_size(draft: &mut Draft, target: &Target, sizes: Sizes) -> Result<(), Prop
     draft.ask(Action::SetBuffer(name, BufferSize::new(size as u16)))
 }
 
-/// The attached client detaches channels: all, or those that are to be.
+/// Lets the attached client detach channels: all, or those that are to be detached.
 pub fn detach(draft: &mut Draft, channels: &[&Channel], all: bool) -> Result<(), ProposalFault> {
     for channel in channels.iter().copied() {
         if all || channel.is_detached() {
@@ -73,7 +73,7 @@ fn is_attended(channel: &Channel, setup: &Setup) -> bool {
     channel.is_detached() || !setup.clears_channels()
 }
 
-/// The lines of the channels that keep what comes while a client is attached.
+/// Adds the lines of the channels that keep what comes while a client is attached.
 fn keep_attended(
     draft: &mut Draft,
     setup: &Setup,
@@ -87,7 +87,7 @@ fn keep_attended(
     Ok(())
 }
 
-/// The lines of all others, while none is.
+/// Adds the lines of all other channels, while no client is attached.
 fn keep_unattended(
     draft: &mut Draft,
     setup: &Setup,
@@ -110,7 +110,7 @@ fn keep_channel(draft: &mut Draft, target: &Target) -> Result<(), ProposalFault>
     Ok(())
 }
 
-/// A client that said a line would empty what it is played.
+/// Adds the lines of a channel from upstream only: a client that said one would empty what it is played.
 fn keep_heard(draft: &mut Draft, target: &Target) -> Result<(), ProposalFault> {
     for place in 0..target.lines().count() {
         if let Some(kept) = target.lines().line(place) {
@@ -124,7 +124,7 @@ fn keep_query(draft: &mut Draft, target: &Target) -> Result<(), ProposalFault> {
     keep_between(draft, target, 0, target.lines().count())
 }
 
-/// The lines of a query from one place on, up to another.
+/// Adds the lines of a query from one place up to another.
 pub fn keep_between(
     draft: &mut Draft,
     target: &Target,

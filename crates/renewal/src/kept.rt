@@ -1,11 +1,11 @@
-//! What stays of buffers, of which a new list is made.
+//! What stays of the buffers; a new list is made from it.
 use crate::change::{Change, is_id_among, is_staying, newest};
 use buffer_machine::BufferMachine;
 use buffer_targets::{Channel, Target};
 use irc_line::Name;
 use std::alloc::{AllocError, Global};
 
-/// What stays of buffers.
+/// What stays of the buffers.
 #[derive(Drop)]
 pub struct Kept<'a> {
     /// The names that stay, each with its number as a reader.

@@ -1,4 +1,4 @@
-//! What a change of the setup means, and what follows from two lists after which buffers hold the same.
+//! What a change of the setup means, and what follows where buffers hold the same after two lists.
 ghost use Rattle.std.specs.Prelude.{◌≡◌, ◌<◌, ◌&&◌, ◌||◌, not, ℕ, Bool, List, []};
 ghost use Rattle.buffer_commands.specs.Settings.{Settings};
 ghost use Rattle.buffer_commands.specs.declared.command.Command.{Command};
@@ -13,25 +13,25 @@ ghost use Rattle.renewal.specs.Lists.{IsRenewal, bodies_of, settled_log};
 ghost use Rattle.renewal.specs.Moved.{moved, size_moved, target_moved};
 ghost use Rattle.renewal.specs.Renewed.{Renewed};
 
-/// Where buffers hold the same after two lists of commands, and have the same floors and nobody attached, the one list
-/// leaves behind what the other does: whatever comes next brings about the same.
+/// Where buffers hold the same after two lists of commands, and have the same floors and nobody attached, the two lists
+/// lead to the same: whatever comes next brings about the same.
 pub fn what_is_held_the_same_is_renewed()
     ensures { (s : Settings) (old new : List Command) → IsSound s
         → ((node : ℕ) → node < 8 → floor new node ≡ floor old node)
         → held s new ≡ held s old → (held s new).clients ≡ [] → Renewed s old new }
 {}
 
-/// Under the same setup, where no name is forgotten, the log that is begun anew leaves behind what the old one does:
-/// whatever comes next brings about the same.
+/// Under the same setup, where no name is forgotten, a renewed log leads to the same as the old one: whatever comes
+/// next brings about the same.
 pub fn the_same_setup_means_the_same()
     ensures { (s : Settings) (boots : List ℕ) (term : ℕ) (old new : List (Entry TowerBody))
         → IsSound s → IsRenewal s s [] boots term old new → Renewed s
         (commands (plain (settled_log boots old))) (commands (plain (run (bodies_of new)))) }
 {}
 
-/// The own nick stays, and so does each name that is not forgotten. A channel stays but for one that the old setup
-/// names, the new one doesn't, and the own nick was not in; and there are those of the new setup that neither the old
-/// one names nor were there. Of a target that stays the newest lines are kept, as many as its size now lets.
+/// The own nick stays, and so does each name that is not forgotten. A channel stays, unless the old setup names it, the
+/// new one doesn't, and the own nick was not in it; and the channels are added that the new setup names, the old one
+/// doesn't, and that did not exist. A target that stays keeps its newest lines, as many as its size now allows.
 pub fn what_a_change_keeps()
     ensures nick { (s t : Settings) (forgotten : List (List ℕ)) (was : List ℕ → Bool) (h : Held)
         → (moved s t forgotten was h).nick ≡ h.nick }

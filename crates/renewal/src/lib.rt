@@ -1,6 +1,6 @@
-//! A list of bodies begun anew: a short list that leaves the same behind, as far as another setup lets.
-//! Stands under journal_folder.
-//! Promises that under the same setup, whatever comes behind the new list brings about the same as behind the old one.
+//! Renewing a list of bodies: a short list that leads to the same, as far as another setup allows. Used by
+//! journal_folder. Promises that under the same setup, whatever comes after the new list brings about the same as after
+//! the old one.
 #![tactic(auto)]
 
 mod anew;

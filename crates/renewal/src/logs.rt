@@ -1,4 +1,4 @@
-//! A log begun anew.
+//! Renewing a log.
 ghost use Rattle.std.specs.Prelude.{◌≡◌, ◌≢◌, ◌≤◌, ◌+◌, ◌++◌, ◌∷◌, [], length, map, false, IfErr, IfOk, OnOk};
 ghost use Rattle.machine_laws.specs.Runs.{History};
 ghost use Rattle.buffer_commands.specs.Settings.{Settings};
@@ -20,20 +20,20 @@ use raft_log::{Entry, Log, LoggedBody};
 use std::alloc::{AllocError, Global};
 use wire_bytes::{Copied, LAST_NUMBER, MOST_NODES, Number, Origin, Wire};
 
-/// A log begun anew, and how much the old one kept.
+/// A renewed log, and how much the old one kept.
 #[derive(Drop)]
 pub struct Renewal {
-    /// All of its entries are of the term behind the greatest that there was.
+    /// All its entries are of the term after the greatest one so far.
     pub log: Log<TowerBody>,
     pub targets: u64,
     pub lines: u64,
 }
 
-/// A log under the setup `to` that leaves behind what this one does under `from`, once all clients of the runs that
-/// there were are gone and no session is in force. `forgotten` are names of clients that go with what they have seen.
-/// `boots` are the greatest run of each node, node 1's first, of as many as the larger of the two groups has, and
-/// `term` is the greatest term. The new log is of one run more of each node, and of the term behind: the next start of
-/// each has to have a run behind that.
+/// A log under the setup `to` that leads to the same as this one under `from`, once all clients of the runs so far are
+/// gone and no session is in force. `forgotten` are names of clients that are dropped with what they have seen. `boots`
+/// are the greatest run of each node, node 1's first, for as many nodes as the larger of the two groups has, and `term`
+/// is the greatest term. The new log belongs to the next run of each node, and to the next term: the next start of each
+/// node must have a run after that.
 pub fn renewed(
     alloc: Global,
     from: &Setup,
@@ -69,7 +69,7 @@ pub fn renewed(
     })
 }
 
-/// How many targets there are, and how many lines are kept of them.
+/// How many targets there are, and how many lines they keep.
 fn counted(layers: &Layers) -> (u64, u64)
     ensures { (s : Settings) (h : History TowerBody)
         → ⟦<Layers as Machine>⟧.stands layers.now s h → AreCounted s h result.0 result.1 }
@@ -81,7 +81,7 @@ fn counted(layers: &Layers) -> (u64, u64)
     (targets as u64, lines as u64)
 }
 
-/// A number behind this one by so many.
+/// This number plus `by`.
 fn behind(number: Number, by: u64) -> Result<Number, RenewalFault>
     requires { by ≤ 2 }
     ensures next { IfOk result (λ n. n ≡ number + by) }
@@ -93,7 +93,7 @@ fn behind(number: Number, by: u64) -> Result<Number, RenewalFault>
     Ok(Number::new(number.value() + by))
 }
 
-/// The term behind the greatest one, and a client of the run of node 1 behind the greatest one.
+/// The term after the greatest one, and a client of the run of node 1 after the greatest one.
 fn start_of(boots: &[Number], term: Number) -> Result<Start, RenewalFault>
     ensures term { IfOk result (λ s. s.term ≡ term + 1) }
     ensures client { IfOk result (λ s. s.client ≡ client_of boots.now) }
@@ -109,7 +109,7 @@ fn start_of(boots: &[Number], term: Number) -> Result<Start, RenewalFault>
     })
 }
 
-/// The floor of each node, behind the run of the renewal.
+/// The floor of each node, after the run of the renewal.
 fn floors_of(alloc: Global, boots: &[Number]) -> Result<Vec<(u8, Number)>, RenewalFault>
     ensures floors { IfOk result (λ v. v.items ≡ floors_of boots.now) }
     ensures fault { IfErr result (λ e. e ≢ RenewalFault.UnknownName) }
@@ -165,7 +165,7 @@ fn logged<M: Hosted>(
     Ok(log)
 }
 
-/// One entry more, where there is room for it.
+/// One more entry, if there is room for it.
 fn push_copy<M: Hosted>(
     alloc: Global,
     log: &mut Log<M::Command>,

@@ -1,6 +1,6 @@
-//! What is kept, and what each name has seen of it, brought about again where clients gave names. Nothing is emptied
-//! by being played then, so that clients may come and go between the lines. All channels but one are detached, so
-//! that a name that attaches sees that one, and the queries.
+//! Bringing about what is kept, and what each name has seen of it, where clients gave names. Playing empties nothing
+//! then, so that clients may come and go between the lines. All channels except one are detached, so that a name that
+//! attaches sees that one, and the queries.
 use crate::change::Change;
 use crate::draft::Draft;
 use crate::fault::ProposalFault;
@@ -13,8 +13,8 @@ use irc_line::{Line, Name};
 use std::alloc::{AllocError, Global};
 use std::collections::VecDeque;
 
-/// The channels and queries that stand there without lines get their sizes, their lines and their marks. The queries
-/// come last: before them nothing of them can be seen. Lines wait again.
+/// Gives the channels and queries, which have no lines yet, their sizes, their lines and their marks. The queries come
+/// last: until then none of their lines can be seen. Lets the lines for upstream wait again.
 pub fn keep_marked(
     draft: &mut Draft,
     change: &Change,
@@ -39,7 +39,7 @@ pub fn keep_marked(
     draft.leave()
 }
 
-/// The attached client attaches a channel again, and the session takes the JOIN that it sends.
+/// Lets the attached client reattach a channel, and claims the JOIN that this sends.
 fn reattach(draft: &mut Draft, channel: &Channel) -> Result<(), ProposalFault> {
     let name = channel_name(draft, channel)?;
     draft.ask(Action::Reattach(name))?;
@@ -54,13 +54,14 @@ fn seen_of(target: &Target, reader: usize) -> usize {
     }
 }
 
-/// The lines of a channel, between which names look in. The channel is detached before and after.
+/// Adds the lines of a channel; between them names attach and leave. The channel is detached before and after.
 fn keep_seen(
     draft: &mut Draft,
     channel: &Channel,
     ids: &[(usize, &Name)],
 ) -> Result<(), ProposalFault> {
     let target = channel.target();
+    // no name has to see a channel of which none has seen a line
     let marked = is_seen(target, ids);
     if marked {
         draft.attach()?;
@@ -92,7 +93,7 @@ fn is_seen(target: &Target, ids: &[(usize, &Name)]) -> bool {
     false
 }
 
-/// The names that have seen so many lines of a target look in.
+/// Lets the names that have seen this many lines of a target attach and leave.
 fn look_in(
     draft: &mut Draft,
     target: &Target,
@@ -107,8 +108,8 @@ fn look_in(
     Ok(())
 }
 
-/// The lines of the queries, between which names look in: a name sees all queries at once, so what one has seen of
-/// them begins what another has, or the other way round.
+/// Adds the lines of the queries; between them names attach and leave. A name sees all queries at once, so of two names
+/// one has seen the first part of what the other has.
 fn keep_queries(
     draft: &mut Draft,
     queries: &[Target],
@@ -126,8 +127,8 @@ fn keep_queries(
     keep_up_to(draft, queries, &mut kept, None)
 }
 
-/// The places of the names, each behind how many lines of all queries its reader has seen, in the order of these
-/// numbers.
+/// The places of the names, in the order of how many lines of all queries their readers have seen, each after that
+/// number.
 fn in_order(
     alloc: Global,
     queries: &[Target],
@@ -151,7 +152,7 @@ fn seen_in_all(queries: &[Target], reader: usize) -> usize {
     all
 }
 
-/// The lines of each query behind those that are kept already, up to those that a reader has seen, or all.
+/// Adds the lines of each query after those that are there already, up to those that a reader has seen, or all.
 fn keep_up_to(
     draft: &mut Draft,
     queries: &[Target],

@@ -1,4 +1,4 @@
-//! Whether a machine of a new setup holds what one of the old setup does, as it is moved.
+//! Whether a machine of a new setup holds what one of the old setup does, moved to the new one.
 ghost use Rattle.std.specs.Prelude.{◌≡◌, ◌<◌, ◌-◌, ℕ, [], false, length, map, filter, replicate, option_map, IfOk, IsTrue};
 ghost use Rattle.irc_line.specs.Keys.{is_in};
 ghost use Rattle.machine_laws.specs.Runs.{History};
@@ -18,7 +18,7 @@ use buffer_targets::{Channel, READERS, Target};
 use irc_line::{Name, is_name_below};
 use std::alloc::{AllocError, Global};
 
-/// Whether the new machine holds what the old one does, as it is moved, and no client is attached to either.
+/// Whether the new machine holds what the old one does, moved to the new setup, and no client is attached to either.
 pub fn is_moved_machine(
     alloc: Global,
     old: &BufferMachine,
@@ -168,7 +168,7 @@ fn is_moved_channel(sizes: Sizes, gone: &[bool], old: &Channel, new: &Channel) -
         && is_moved_target(sizes, gone, old.target(), new.target())
 }
 
-/// Whether the new queries are the old ones, but for the oldest past the most that there may be.
+/// Whether the new queries are the old ones, without the oldest past the most allowed.
 fn are_moved_queries(change: &Change, gone: &[bool], old: &[Target], new: &[Target]) -> bool
     ensures { IsTrue result → new.now ≡
         queries_moved change.now.from.now change.now.to.now gone.now old.now }
@@ -200,7 +200,7 @@ fn is_moved_target(sizes: Sizes, gone: &[bool], old: &Target, new: &Target) -> b
         && is_moved_ring(size, old.lines(), new.lines())
 }
 
-/// Whether the new counts are those of the names that stay, of so many lines fewer, and 0 for all further ones.
+/// Whether the new counts are those of the names that stay, less this many dropped lines, and then 0.
 fn are_moved_counts(dropped: usize, gone: &[bool], old: &[usize], new: &[usize]) -> bool
     ensures { IsTrue result → new.now ≡ seen_moved gone.now (fewer dropped old.now) }
 {
@@ -226,7 +226,7 @@ fn are_staying_counts(dropped: usize, gone: &[bool], old: &[usize], new: &[usize
     }
 }
 
-/// Whether a ring of this size has the newest lines of another, as many as it lets.
+/// Whether a ring of this size has the newest lines of another, as many as the size allows.
 fn is_moved_ring(size: usize, old: &LineRing, new: &LineRing) -> bool
     ensures { IsTrue result → new.now ≡ of_size size old.now }
 {

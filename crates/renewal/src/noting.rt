@@ -1,4 +1,4 @@
-//! The channels that the own nick was in when a session was last in force, noted while a log comes.
+//! The channels that the own nick was in when a session was last in force, noted while a log is applied.
 ghost use Rattle.std.specs.Prelude.{◌≡◌, ◌∷◌, ℕ, [], false, map, IfErr, IfOk, OnOk};
 ghost use Rattle.machine_laws.specs.Runs.{History, run};
 ghost use Rattle.buffer_commands.specs.Settings.{Settings};
@@ -22,8 +22,8 @@ use std::alloc::{AllocError, Global};
 use upstream_claim::ClaimsCommand;
 use wire_bytes::{Number, SessionId};
 
-/// Layers, and the channels that the own nick was in when a session was last in force: they are noted before each
-/// body by which the session may end.
+/// Layers, and the channels that the own nick was in when a session was last in force: they are noted before each body
+/// with which the session may end.
 #[derive(Drop)]
 struct Noting {
     alloc: Global,
@@ -71,8 +71,7 @@ impl Machine for Noting {
     ghost stands_whole = { λ m s h st. st.2 };
 }
 
-/// Layers to which the bodies of a log came, and the channels that the own nick was in when a session was last in
-/// force.
+/// The layers after the bodies of a log, and the channels that the own nick was in when a session was last in force.
 pub fn folded_log(
     alloc: Global,
     setup: &Setup,
@@ -97,8 +96,8 @@ pub fn folded_log(
     Ok((layers, joined))
 }
 
-/// Applies the bodies of a log, the first at place 1, to a machine to which nothing came. After an error the machine
-/// is to be thrown away.
+/// Applies the bodies of a log, the first at place 1, to a machine with an empty history. After an error the machine is
+/// to be thrown away.
 #[tactic(auto, using(crate::proofs::Comes::run_more))]
 fn apply_all<M: Machine>(machine: &mut M, log: &Log<M::Command>) -> Result<(), ApplyFault>
     ensures { (s : M.Setup) → M.stands machine.old s []
@@ -137,7 +136,7 @@ fn step(
     }
 }
 
-/// The joined channels are noted where the session may end by a body.
+/// Notes the joined channels where the session may end with a body.
 fn note_before(
     alloc: Global,
     layers: &Layers,
@@ -154,7 +153,7 @@ fn note_before(
     Ok(())
 }
 
-/// Whether a session may end by a body.
+/// Whether a session may end with a body.
 fn may_end(body: &TowerBody) -> bool
     ensures { result ≡ may_end body.now }
 {
@@ -164,7 +163,7 @@ fn may_end(body: &TowerBody) -> bool
     )
 }
 
-/// Notes the channels that are joined, where a session is in force.
+/// Notes the channels that are joined, if a session is in force.
 fn note(alloc: Global, layers: &Layers, joined: &mut Vec<Name>) -> Result<(), AllocError>
     ensures { (s : Settings) (h : History TowerBody) → ⟦<Layers as Machine>⟧.stands layers.now s h
         → WereNoted s h joined.old.items → OnOk result (AreNoted s h joined.new.items) }

@@ -1,4 +1,4 @@
-//! A new list of bodies for what the buffers hold. It need not be believed: what it leaves behind is compared.
+//! Proposes a new list of bodies for what the buffers hold. It need not be trusted: what the list leads to is compared.
 use crate::change::{Change, added, is_among};
 use crate::draft::{Draft, Start};
 use crate::fault::ProposalFault;
@@ -13,11 +13,11 @@ use std::alloc::Global;
 use std::collections::VecDeque;
 use wire_bytes::Number;
 
-/// The own nick while the list is made. No line is of a nick that has a `!`, which the own one may have.
+/// The own nick while the list is made. The real one may have a `!`, and no line can come from such a nick.
 const NICK: &[u8] = b"me";
 
-/// Bodies that are to bring new buffers of the new setup to what these hold, as it is moved, with these lines waiting.
-/// Each node of the floors has its runs below its floor gone.
+/// Bodies that are to lead new buffers of the new setup to what these hold, moved to that setup, with these lines
+/// waiting. The runs of each node below its floor are gone.
 pub fn propose(
     alloc: Global,
     change: &Change,
@@ -56,7 +56,7 @@ pub fn propose(
     Ok(draft.into_bodies())
 }
 
-/// The channels that stand at the start go, but for the new ones.
+/// Parts the channels that exist from the start, except the new ones.
 fn part(draft: &mut Draft, added: &[Name], change: &Change) -> Result<(), ProposalFault> {
     for channel in change.to.channels() {
         if !is_among(channel, added) {
@@ -68,7 +68,7 @@ fn part(draft: &mut Draft, added: &[Name], change: &Change) -> Result<(), Propos
     Ok(())
 }
 
-/// A line for each query, by the spelling under which it was made.
+/// Adds a line for each query, with the name with which it was made.
 fn make_queries(draft: &mut Draft, queries: &[Target]) -> Result<(), ProposalFault> {
     for query in queries {
         let mut line = Vec::from_slice(draft.allocator(), b":")?;
@@ -79,7 +79,7 @@ fn make_queries(draft: &mut Draft, queries: &[Target]) -> Result<(), ProposalFau
     Ok(())
 }
 
-/// The channels are made, by their spellings.
+/// Makes the channels, with their names as written.
 fn join(draft: &mut Draft, channels: &[&Channel]) -> Result<(), ProposalFault> {
     for channel in channels.iter().copied() {
         let mut line = Vec::from_slice(draft.allocator(), b":me JOIN ")?;

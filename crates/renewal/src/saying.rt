@@ -1,4 +1,4 @@
-//! A kept line, brought about again.
+//! Bringing about a kept line again.
 use crate::draft::Draft;
 use crate::fault::ProposalFault;
 use buffer_commands::{Action, Verb, WireLine};
@@ -10,8 +10,7 @@ use std::collections::VecDeque;
 /// The end of the prefix of what a client says.
 const HOST: &[u8] = b"!bouncer@local";
 
-/// A kept line of a channel comes again at its moment: from upstream, or, where it is too long for that, said by the
-/// client.
+/// Adds a kept line of a channel at its moment: from upstream or, if it is too long for that, said by the client.
 pub fn keep_line(draft: &mut Draft, kept: &KeptLine) -> Result<(), ProposalFault> {
     match WireLine::from_line(kept.line().share()?) {
         Some(line) => draft.hear(kept.at(), line),
@@ -19,7 +18,7 @@ pub fn keep_line(draft: &mut Draft, kept: &KeptLine) -> Result<(), ProposalFault
     }
 }
 
-/// A kept line of a channel comes again from upstream.
+/// Adds a kept line of a channel from upstream.
 pub fn hear_line(draft: &mut Draft, kept: &KeptLine) -> Result<(), ProposalFault> {
     match WireLine::from_line(kept.line().share()?) {
         Some(line) => draft.hear(kept.at(), line),
@@ -27,13 +26,13 @@ pub fn hear_line(draft: &mut Draft, kept: &KeptLine) -> Result<(), ProposalFault
     }
 }
 
-/// A kept line of a query comes again: to the own nick of its moment.
+/// Adds a kept line of a query, sent to the own nick of its time.
 pub fn keep_told(draft: &mut Draft, kept: &KeptLine) -> Result<(), ProposalFault> {
     draft.answer_to(kept.line().parameter(0))?;
     keep_line(draft, kept)
 }
 
-/// The client says a line again. The session takes what is sent.
+/// Lets the client say a line again, and claims what is sent.
 fn say_again(draft: &mut Draft, kept: &KeptLine) -> Result<(), ProposalFault> {
     let line = kept.line();
     let nick = line.prefix().and_then(|prefix| prefix.strip_suffix(HOST));
@@ -51,7 +50,7 @@ fn say_again(draft: &mut Draft, kept: &KeptLine) -> Result<(), ProposalFault> {
     Ok(())
 }
 
-/// The attached client sends lines again that waited: they wait, and no session takes them.
+/// Lets the attached client send again the lines that waited: they wait, and no session claims them.
 pub fn send_again(draft: &mut Draft, waiting: &VecDeque<Line>) -> Result<(), ProposalFault> {
     for place in 0..waiting.len() {
         if let Some(line) = waiting.get(place) {
@@ -62,7 +61,7 @@ pub fn send_again(draft: &mut Draft, waiting: &VecDeque<Line>) -> Result<(), Pro
     Ok(())
 }
 
-/// What a client asks for that says a line.
+/// The request of a client that says a line.
 fn said_action(alloc: Global, line: &Line) -> Result<Action, ProposalFault> {
     let verb = match line.command() {
         b"PRIVMSG" => Verb::Privmsg,

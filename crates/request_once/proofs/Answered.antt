@@ -1,4 +1,4 @@
--- Done is answered for the requests that stay, and for no other.
+-- Requests that stay are answered Done, and no others.
 use Rattle.std.proofs.Common.{◌≡◌, ℕ, ◌+◌, ◌≤◌, Bool, true, false, List, [], ◌∷◌, ◌++◌, map, refl, ap, ◌∙◌, sym, arith}
 use Rattle.std.specs.Prelude.{if◌then◌else◌, ◌==◌, ◌&&◌, nat_le}
 use Rattle.wire_bytes.specs.declared.origin.Origin.{Origin}
@@ -50,7 +50,7 @@ module _ {C A E : Type 0} (client : Origin → ℕ → A → C) (effects : Histo
   one_body earlier place (Mark m) = omega arith
   one_body earlier place (Asked p m at a) = asked_by earlier place p m at a (m == asked p (fresh earlier) + 1) refl
 
-  -- over a whole list, Done is answered for each request that stays
+  -- over a whole list, each request that stays is answered Done
   pub dones_stay : (h : History (Body C A)) → dones o n (all_effects (answers client effects) h) ≡ times o n (fresh h)
   unfolding fresh
   dones_stay [] = refl

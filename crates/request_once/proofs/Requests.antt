@@ -1,4 +1,4 @@
--- How one more body changes what is kept.
+-- How what is kept changes with one more body.
 use Rattle.std.proofs.Common.{◌≡◌, ℕ, ◌+◌, ◌<◌, ◌≤◌, ◌≢◌, Bool, true, false, List, [], ◌∷◌, ◌++◌, map, refl, ap, ◌∙◌, sym, arith}
 use Rattle.std.specs.Prelude.{if◌then◌else◌}
 use Rattle.wire_bytes.specs.declared.mark.Mark as mark

@@ -12,12 +12,12 @@ use Rattle.request_once.specs.declared.answer.Answer.TheVariants.{Effect, Done}
 use Rattle.request_once.specs.Fresh.{asked, stays, if_stays, fresh, last, plain, plain_of, refused, answers, is_blank_or_mark, times}
 use Rattle.machine_laws.proofs.Origins.{same_origin-is}
 
--- the requests of a number past the last one's, by whether one more is of that origin
+-- how many requests there are past the last number, by whether one more is from that origin
 past_by : (b : Bool) (k n m t : ℕ) → m ≡ k + 1 → (if b then k + 1 else k) < n → (k < n → t ≡ 0) → (if b && m == n then t + 1 else t) ≡ 0
 past_by true k n m t e lt ih = let f : (m == n) ≡ false = grind (arith, nat_tests) in rw f (ih (omega arith))
 past_by false k n m t e lt ih = ih lt
 
--- a request that stays is the only one of its number
+-- a request that stays is the only one with its number
 once_by : (b c : Bool) (m n k t : ℕ) → (m == n) ≡ c → m ≡ k + 1 → (k < n → t ≡ 0) → t ≤ 1 → (if b && c then t + 1 else t) ≤ 1
 once_by true true m n k t f e past le = let m_is : m ≡ n = grind (arith, nat_tests) in let z : t ≡ 0 = past (omega arith) in omega arith
 once_by true false m n k t f e past le = le
@@ -30,7 +30,7 @@ asked-same : {C A : Type 0} (kept : History (Body C A)) (o p : Origin) (b : Bool
 asked-same kept o p b s m e t = e ∙ ap (λ (q : Origin). asked q kept + 1) (sym (same_origin-is o p (s ∙ t)))
 
 module _ {C A : Type 0} where
-  -- of a number past that of an origin's requests that stay none stays
+  -- no request stays with a number past how many of its origin's requests stay
   past-step : (kept : History (Body C A)) (place : ℕ) (o p : Origin) (m at n : ℕ) (a : A) (b s : Bool) → same_origin o p ≡ s → (m == asked p kept + 1) ≡ b → (asked o kept < n → times o n kept ≡ 0)
       → asked o (if_stays b (place, Asked p m at a) kept) < n → times o n (if_stays b (place, Asked p m at a) kept) ≡ 0
   past-step kept place o p m at n a true true e f ih lt =
@@ -56,7 +56,7 @@ module _ {C A : Type 0} where
   once-step kept place o p m at n a true false e f past le = rw e le
   once-step kept place o p m at n a false s e f past le = le
 
-  -- of the requests that stay no two have the same origin and number
+  -- no two of the requests that stay have the same origin and number
   pub stays_once : (bodies : History (Body C A)) (o : Origin) (n : ℕ) → times o n (fresh bodies) ≤ 1
   unfolding fresh
   stays_once [] o n = omega arith
@@ -66,7 +66,7 @@ module _ {C A : Type 0} where
   stays_once ((place, Asked p m at a) ∷ earlier) o n =
       once-step (fresh earlier) place o p m at n a (m == asked p (fresh earlier) + 1) (same_origin o p) refl refl (past earlier o n) (stays_once earlier o n)
 
-  -- a body that does not stay is as if it had not come
+  -- a body that does not stay changes nothing, as if it had not come
   pub fresh_without : (later earlier : History (Body C A)) (x : ℕ × Body C A) → stays (fresh earlier) x.1 ≡ false → fresh (later ++ x ∷ earlier) ≡ fresh (later ++ earlier)
   unfolding fresh
   fresh_without [] earlier x e = ap (λ b. if_stays b x (fresh earlier)) e
@@ -77,7 +77,7 @@ module _ {C A : Type 0} where
   unfolding plain
   plain_without client later earlier place o n at a e = ap (plain_of client) (fresh_without later earlier (place, Asked o n at a) e)
 
--- two lists of bodies that stay, with as many requests of each origin and the same commands
+-- two lists of bodies that stay, with the same number of requests from each origin and the same commands
 record Alike {C A : Type 0} (client : Origin → ℕ → A → C) (one other : History (Body C A)) : Type 0 where
   asks : (o : Origin) → asked o one ≡ asked o other
   commands : plain_of client one ≡ plain_of client other
@@ -110,7 +110,8 @@ module _ {C A : Type 0} (client : Origin → ℕ → A → C) where
   alike [] earlier place x e = alike_first (fresh earlier) place x e
   alike (y ∷ later) earlier place x e = alike_next (fresh (later ++ (place, x) ∷ earlier)) (fresh (later ++ earlier)) y (alike later earlier place x e)
 
-  -- a blank or a mark is as if it had not come: of the commands, of the last requests, and of what is answered later
+  -- a blank or a mark changes nothing, as if it had not come: neither the commands, nor the last requests, nor any
+  -- later answer
   pub same_commands : (later earlier : History (Body C A)) (place : ℕ) (x : Body C A) → is_blank_or_mark x ≡ true → plain client (later ++ (place, x) ∷ earlier) ≡ plain client (later ++ earlier)
   unfolding plain
   same_commands later earlier place x e = (alike later earlier place x e).commands
@@ -119,7 +120,7 @@ module _ {C A : Type 0} (client : Origin → ℕ → A → C) where
   unfolding last
   same_last later earlier place x e o = (alike later earlier place x e).asks o
 
-  -- what one is answered, by the commands and the last request before it
+  -- what a body is answered, by the commands and the last request before it
   abbrev asked_of : {E : Type 0} → (History C → ℕ → C → List E) → ℕ → Origin → ℕ → ℕ → A → History C → ℕ → List (Answer E)
   asked_of effects place o n at a commands was = if n == was + 1 then map Effect (effects commands place (client o at a)) ++ Done o n ∷ [] else refused o n was ∷ []
 

@@ -1,4 +1,4 @@
--- Bodies are a codec where the commands below and the actions are. These are lemmas, which need not be believed.
+-- Bodies are a codec where the commands below and the actions are. These are lemmas; nothing here has to be trusted.
 use Rattle.std.proofs.Common.{◌≡◌, ℕ, List, [], ◌∷◌, ◌++◌, IsTrue, refl, arith}
 use Rattle.std.specs.Prelude.{is_some}
 use Rattle.wire_bytes.specs.Fields.{Reading, done, through, both, reading_of}
@@ -49,7 +49,7 @@ module _ {C A : Type 0} (command : C → List ℕ) (command_fits : C → Type 0)
   split_mark Blank h = absurd (omega arith)
   split_mark (Mark m) h = (m, h.0, refl)
 
-  -- what may stand behind each kind byte
+  -- what may follow each kind byte
   abbrev cases : List (ℕ × Reading (Body C A))
   cases = (0, through Inner command_taken) ∷ (1, asked_taken action_taken) ∷ (2, done Blank) ∷ (3, marking_taken) ∷ []
 

@@ -1,4 +1,4 @@
--- Requests that are numbered by their client. A history has each body with its place, the newest first.
+-- Requests that their clients number. A history has each body with its place, the newest first.
 use Rattle.std.specs.Prelude.{◌≡◌, ℕ, ◌+◌, Bool, true, false, ◌&&◌, if◌then◌else◌, ◌==◌, nat_le, List, [], ◌∷◌, ◌++◌, map, Option, Some, None, unwrap_or}
 use Rattle.machine_laws.specs.Runs.{History}
 use Rattle.machine_laws.specs.Origins.{same_origin}
@@ -21,14 +21,15 @@ module _ {C A : Type 0} where
   asked o [] = 0
   asked o (x ∷ earlier) = if is_asked_by o x.1 then asked o earlier + 1 else asked o earlier
 
-  -- a body stays, but for a request whose number is not one more than that of its origin's requests that stayed before
+  -- a body stays, unless it is a request whose number is not one more than the number of its origin's earlier requests
+  -- that stayed
   abbrev pub stays : History (Body C A) → Body C A → Bool
   stays kept (Inner c) = true
   stays kept (Asked o n at a) = n == asked o kept + 1
   stays kept Blank = true
   stays kept (Mark m) = true
 
-  -- with this body, where it stays
+  -- the history with this body, where it stays
   abbrev pub if_stays : Bool → ℕ × Body C A → History (Body C A) → History (Body C A)
   if_stays true x kept = x ∷ kept
   if_stays false x kept = kept
@@ -38,7 +39,7 @@ module _ {C A : Type 0} where
   fresh [] = []
   fresh (x ∷ earlier) = let kept = fresh earlier in if_stays (stays kept x.1) x kept
 
-  -- the number of an origin's last request that stayed, 0 without one
+  -- the number of an origin's last request that stayed, 0 if none did
   unfoldable pub last : History (Body C A) → Origin → ℕ
   last bodies o = asked o (fresh bodies)
 
@@ -61,14 +62,14 @@ is_blank_or_mark (Asked o n at a) = false
 is_blank_or_mark Blank = true
 is_blank_or_mark (Mark m) = true
 
--- the command of a body, by that of a client's request; a blank and a mark have none
+-- the command of a body, where `client` makes that of a client's request; a blank and a mark have none
 abbrev pub plain_one : {C A : Type 0} → (Origin → ℕ → A → C) → Body C A → Option C
 plain_one client (Inner c) = Some c
 plain_one client (Asked o n at a) = Some (client o at a)
 plain_one client Blank = None
 plain_one client (Mark m) = None
 
--- a history with one more command at a place, where there is one
+-- a history with one more command at a place, if there is one
 abbrev pub with_command : {C : Type 0} → ℕ → Option C → History C → History C
 with_command place None earlier = earlier
 with_command place (Some c) earlier = (place, c) ∷ earlier
@@ -100,7 +101,7 @@ answers client effects earlier place (Mark m) = Marked m ∷ []
 abbrev pub HasNumbers : {C A : Type 0} → (Origin → Option ℕ) → History (Body C A) → Type 0
 HasNumbers numbers bodies = (o : Origin) → unwrap_or (numbers o) 0 ≡ last bodies o
 
--- the numbers after one more of an origin
+-- the numbers after one more request of an origin
 abbrev pub IsNoted : (Origin → Option ℕ) → (Origin → Option ℕ) → Origin → ℕ → Type 0
 IsNoted old new origin number = (o : Origin) → unwrap_or (new o) 0 ≡ (if same_origin o origin then number else unwrap_or (old o) 0)
 

@@ -1,5 +1,5 @@
--- Bodies as bytes: a kind byte, 0 for a command of the machine below, 1 for a numbered request, 2 for a blank and 3 for a mark,
--- and what it has.
+-- Bodies as bytes: a kind byte, 0 for a command of the machine below, 1 for a numbered request, 2 for a blank and 3 for
+-- a mark, followed by its fields.
 use Rattle.std.specs.Prelude.{ℕ, List, [], ◌∷◌, ◌++◌}
 use Rattle.wire_bytes.specs.Fields.{Reading, done, through, both, choice}
 use Rattle.wire_bytes.specs.Wants.{Wants, wants_behind, wants_choice}
@@ -12,11 +12,11 @@ use Rattle.request_once.specs.declared.body.Body.TheVariants.{Inner, Asked, Blan
 abbrev pub spelled_asked : {A : Type 0} → (A → List ℕ) → Origin → ℕ → ℕ → A → List ℕ
 spelled_asked action o n at a = ((spelled_origin o ++ spelled_number n) ++ spelled_number at) ++ action a
 
--- a request wants memory for its action alone
+-- a request needs memory only for its action
 abbrev pub asked_wants : Wants → Wants
 asked_wants action = wants_behind (both (both origin number) moment) action
 
--- which inputs may want memory: a command below does, and a request
+-- which inputs may need memory: a command of the machine below and a request
 abbrev pub body_wants : Wants → Wants → Wants
 body_wants command action = wants_choice ((0, command) ∷ (1, asked_wants action) ∷ [])
 
@@ -28,7 +28,7 @@ module _ {C A : Type 0} where
   body_kind Blank = 2
   body_kind (Mark m) = 3
 
-  -- what stands behind the kind byte
+  -- what follows the kind byte
   abbrev pub spelled_parts : (C → List ℕ) → (A → List ℕ) → Body C A → List ℕ
   spelled_parts command action (Inner c) = command c
   spelled_parts command action (Asked o n at a) = spelled_asked action o n at a
@@ -46,11 +46,11 @@ module _ {C A : Type 0} where
   FitsBody command action Blank = Unit {0}
   FitsBody command action (Mark m) = FitsMark m
 
-  -- a command below, behind the kind byte
+  -- a command below, after the kind byte
   abbrev pub inner_taken : Reading C → Reading (Body C A)
   inner_taken command = through Inner command
 
-  -- a request, by its parts as they are read
+  -- a request, from its parts as they are read
   abbrev pub asked_of : ((Origin × ℕ) × ℕ) × A → Body C A
   asked_of p = Asked p.0.0.0 p.0.0.1 p.0.1 p.1
 
@@ -58,7 +58,7 @@ module _ {C A : Type 0} where
   abbrev pub asked_taken : Reading A → Reading (Body C A)
   asked_taken action = through asked_of (both (both (both origin number) moment) action)
 
-  -- a mark, behind the kind byte
+  -- a mark, after the kind byte
   abbrev pub marking_taken : Reading (Body C A)
   marking_taken = through Mark mark_taken
 

@@ -9,11 +9,11 @@ use wire_bytes::{Copied, Mark, Origin};
 pub enum Answer<E> {
     /// An effect of the machine below.
     Effect(E),
-    /// The origin's request of this number took effect, now.
+    /// The origin's request of this number took effect now.
     Done(Origin, u64),
-    /// The request took effect before; this is the number of the origin's last that did.
+    /// The request took effect before; this is the number of the origin's last request that did.
     Repeat(Origin, u64),
-    /// The request came too early; this is the number of the one that is to come next.
+    /// The request came too early; this is the number that is to come next.
     Gap(Origin, u64),
     /// This mark came.
     Marked(Mark),

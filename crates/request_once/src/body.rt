@@ -10,7 +10,7 @@ ghost use Rattle.wire_bytes.specs.Reads.{Reads, Refuses, WantsWhere};
 use std::alloc::{AllocError, Global};
 use wire_bytes::{Copied, Mark, Moment, Number, Origin, Wire, WireFault, take_behind, undo};
 
-/// A command of the machine below, a numbered request of a client, or one of two that change nothing.
+/// A command of the machine below, a numbered request of a client, or one of two bodies that change nothing.
 ///
 /// An origin numbers its requests from 1.
 #[derive(Drop)]
@@ -88,7 +88,7 @@ impl<C: Wire, A: Wire> Wire for Body<C, A> {
         C.is_codec A.is_codec };
 }
 
-/// Appends what a request has, behind its kind byte, or leaves the items as they were.
+/// Appends the fields of a request, after its kind byte, or leaves the items as they were.
 fn put_asked<A: Wire>(
     out: &mut Vec<u8>,
     origin: Origin,
@@ -109,7 +109,7 @@ fn put_asked<A: Wire>(
     undo(out, len, outcome)
 }
 
-/// The command behind a kind byte.
+/// The command after a kind byte.
 fn take_inner<C: Wire, A: Wire>(
     alloc: Global,
     input: &[u8],
@@ -123,7 +123,7 @@ fn take_inner<C: Wire, A: Wire>(
     Ok((Body::Inner(command), end))
 }
 
-/// The request behind a kind byte.
+/// The request after a kind byte.
 fn take_asked<C: Wire, A: Wire>(
     alloc: Global,
     input: &[u8],
@@ -139,7 +139,7 @@ fn take_asked<C: Wire, A: Wire>(
     Ok((Body::Asked(origin, number, at, action), end))
 }
 
-/// The mark behind a kind byte.
+/// The mark after a kind byte.
 #[tactic(auto, using(wire_bytes::proofs::Steps::composed))]
 fn take_mark<C: Drop, A: Drop>(
     alloc: Global,

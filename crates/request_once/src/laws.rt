@@ -1,4 +1,4 @@
-//! That each request takes effect once.
+//! Each request takes effect once.
 ghost use Rattle.std.specs.Prelude.{◌≡◌, ◌≤◌, ◌++◌, ◌∷◌, ℕ, false, true};
 ghost use Rattle.machine_laws.specs.Runs.{History, all_effects};
 ghost use Rattle.wire_bytes.specs.declared.origin.Origin.{Origin};
@@ -7,7 +7,7 @@ ghost use Rattle.request_once.specs.Fresh.{answers, dones, fresh, is_blank_or_ma
 use crate::body::Body;
 use machine_laws::HasClients;
 
-/// Of the requests that stay, no two have the same origin and number. One that does not stay changes nothing, then or
+/// No two of the requests that stay have the same origin and number. One that does not stay changes nothing, then or
 /// later: what follows it gives the same commands as without it.
 #[tactic(auto, using(crate::proofs::Stays::stays_once, crate::proofs::Stays::plain_without))]
 pub fn each_request_takes_effect_once<M: HasClients>()
@@ -22,7 +22,7 @@ pub fn each_request_takes_effect_once<M: HasClients>()
 {}
 
 /// A blank or a mark changes neither the commands below nor the number of any origin's last request, then or later, nor
-/// what any later body is answered.
+/// how any later body is answered.
 #[tactic(auto, using(crate::proofs::Stays::same_commands, crate::proofs::Stays::same_last, crate::proofs::Stays::same_answers))]
 pub fn a_blank_or_a_mark_changes_nothing<M: HasClients>()
     ensures commands { (later earlier : History (Body M.Command M.Action)) (place : ℕ)

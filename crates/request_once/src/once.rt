@@ -12,9 +12,9 @@ use std::alloc::{AllocError, Global};
 use std::collections::BTreeMap;
 use wire_bytes::Origin;
 
-/// A machine each of whose requests takes effect once: one with the next number of its origin is applied and answered
-/// `Done`, one with an earlier number is answered `Repeat`, one with a later number `Gap`, and these two change nothing.
-/// Nor does a blank, which has no answer, or a mark, which is answered `Marked`.
+/// A machine on which each request takes effect once: one with the next number of its origin is applied and answered
+/// `Done`, one with an earlier number is answered `Repeat`, one with a later number `Gap`, and these two change
+/// nothing. A blank, which has no answer, and a mark, which is answered `Marked`, change nothing either.
 ///
 /// The last numbers are kept for good, in a map by origin.
 #[derive(Drop)]

@@ -28,7 +28,7 @@ fn last_of(last: &BTreeMap<Origin, u64>, origin: &Origin) -> u64
     }
 }
 
-/// Notes the number of an origin's last request.
+/// Sets the number of an origin's last request.
 fn note(last: &mut BTreeMap<Origin, u64>, origin: Origin, number: u64) -> Result<(), AllocError>
     ensures { OnOk result (IsNoted (get (⟦<Origin as Ord>⟧.cmp) last.old) (get
         (⟦<Origin as Ord>⟧.cmp) last.new) origin number) }
@@ -37,7 +37,7 @@ fn note(last: &mut BTreeMap<Origin, u64>, origin: Origin, number: u64) -> Result
     Ok(())
 }
 
-/// A request: the next of its origin is applied and noted, and any other changes nothing.
+/// Applies and notes a request that is the next of its origin; any other changes nothing.
 fn ask<M: HasClients>(
     alloc: Global,
     machine: &mut M,
@@ -71,6 +71,7 @@ fn ask<M: HasClients>(
     if number <= was {
         return Ok(single(alloc, Answer::Repeat(origin, was))?);
     }
+    // a request may be lost and asked again, so a later one must not take effect before it
     if number - was > 1 {
         return Ok(single(alloc, Answer::Gap(origin, was + 1))?);
     }
@@ -84,7 +85,7 @@ fn ask<M: HasClients>(
     Ok(answers)
 }
 
-/// What a body does to the machine below and to the numbers of the last requests.
+/// Applies a body to the machine below and to the numbers of the last requests.
 pub fn step<M: HasClients>(
     alloc: Global,
     machine: &mut M,

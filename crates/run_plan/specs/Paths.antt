@@ -1,4 +1,4 @@
--- Where the journals lie.
+-- Where the journals are.
 use Rattle.std.specs.Prelude.{ℕ, List, ◌++◌, codes, decimal}
 
 -- node N's journal is the file node-N in the folder

@@ -1,4 +1,5 @@
--- What a plan says: who the bouncer is, where the server and its own nodes are, and what it writes where. No password is among what it is made from.
+-- What a plan says: who the bouncer is, where the server and its own nodes are, and what it writes where. It is made
+-- from no password.
 use Rattle.std.specs.Prelude.{ℕ, suc, Bool, true, false, List, [], ◌∷◌, ◌++◌, Option, Some, None, is_some, map, option_map, string_bytes, codes, decimal}
 use Rattle.buffer_commands.specs.Settings.{Settings}
 use Rattle.bouncer_config.specs.declared.config.Config.{Config}
@@ -7,15 +8,15 @@ use Rattle.bouncer_config.specs.declared.input_end.InputEnd.TheVariants.{Stops, 
 use Rattle.bouncer_config.specs.Placing.{folder_of}
 use Rattle.run_plan.specs.Paths.{journal_path}
 
--- a line of this name and this content
+-- a line with this name and this content
 abbrev pub line : List ℕ → List ℕ → List ℕ
 line name content = name ++ codes ": " ++ content ++ codes "\n"
 
--- an address of this port on this machine
+-- the address of this port on this machine
 abbrev pub address : ℕ → List ℕ
 address port = codes "127.0.0.1:" ++ decimal port
 
--- further names, each behind a comma
+-- further names, each after a comma
 abbrev pub further : List (List ℕ) → List ℕ
 further [] = []
 further (name ∷ names) = codes ", " ++ name ++ further names
@@ -34,7 +35,7 @@ server_password false = codes ", without a password"
 abbrev pub server : ℕ → Bool → List ℕ
 server port sends_password = address port ++ server_password sends_password
 
--- where clients reach this node, and where its journal lies
+-- where clients reach this node, and where its journal is
 abbrev pub node_content : List ℕ → ℕ → ℕ → List ℕ
 node_content folder node port = codes "clients at " ++ address port ++ codes ", journal " ++ journal_path folder node
 
@@ -60,7 +61,7 @@ abbrev pub input_word : InputEnd → List ℕ
 input_word Stops = codes "its end stops the bouncer"
 input_word Ignored = codes "not read"
 
--- what of a configuration stands in a plan
+-- what a plan contains of a configuration
 pub record Planned : Type 0 where
   pub setup : Settings
   -- the server's port, and whether the server is sent a password
@@ -73,7 +74,7 @@ pub record Planned : Type 0 where
   pub record_file : Option (List ℕ)
   pub input_end : InputEnd
 
--- what of this configuration stands in a plan: of the server's password only whether one is sent
+-- what a plan contains of this configuration: of the server's password only whether one is sent
 abbrev pub planned_of : Config → Planned
 planned_of c =
     record {

@@ -1,6 +1,5 @@
-//! What a run of a bouncer would do, as its configuration says it, in lines of text.
-//! Stands under bouncer_run.
-//! A plan has the lines of its definition, which knows of the passwords only whether the server is sent one.
+//! What a run of a bouncer would do according to its configuration, in lines of text. Used by bouncer_run. A plan has
+//! the lines of its definition, which knows about the passwords only whether the server is sent one.
 #![tactic(auto)]
 
 mod paths;

@@ -1,4 +1,4 @@
-//! Where the journals lie.
+//! Where the journals are.
 ghost use Rattle.std.specs.Prelude.{◌≡◌, IfOk, string_bytes};
 ghost use Rattle.run_plan.specs.Paths.{journal_path};
 

@@ -10,7 +10,7 @@ use buffer_commands::Setup;
 use raft_log::NodeId;
 use std::alloc::{AllocError, Global};
 
-/// What a run over this configuration would do, in lines of text. No password stands in it.
+/// What a run with this configuration would do, in lines of text. It contains no password.
 pub fn plan(alloc: Global, config: &Config) -> Result<Vec<u8>, AllocError>
     requires { IsGroupSize (length config.now.listen.items) }
     ensures { IfOk result (λ text. text.items ≡ plan (planned_of config.now)) }
@@ -27,7 +27,7 @@ pub fn plan(alloc: Global, config: &Config) -> Result<Vec<u8>, AllocError>
     Ok(out)
 }
 
-/// The channels that stand at the start.
+/// The channels that exist from the start.
 fn channels(alloc: Global, setup: &Setup) -> Result<Vec<u8>, AllocError>
     ensures { IfOk result (λ text. text.items ≡ all_names setup.now.channels) }
 {
@@ -77,7 +77,7 @@ fn push_nodes(
     }
 }
 
-/// Where clients reach a node, and where its journal lies.
+/// Where clients reach a node, and where its journal is.
 fn node_content(
     alloc: Global,
     folder: &str,

@@ -7,7 +7,7 @@ use irc_line::Name;
 use itoa::Buffer;
 use std::alloc::AllocError;
 
-/// A line of this name and this content.
+/// Appends a line with this name and this content.
 pub fn push_line(out: &mut Vec<u8>, name: &[u8], content: &[u8]) -> Result<(), AllocError>
     ensures { OnOk result (out.new.items ≡ out.old.items ++ line name.now content.now) }
 {
@@ -17,7 +17,7 @@ pub fn push_line(out: &mut Vec<u8>, name: &[u8], content: &[u8]) -> Result<(), A
     out.extend_from_slice(b"\n")
 }
 
-/// A number in decimal digits.
+/// Appends a number in decimal digits.
 pub fn push_number(out: &mut Vec<u8>, number: u64) -> Result<(), AllocError>
     ensures { OnOk result (out.new.items ≡ out.old.items ++ decimal number) }
 {
@@ -25,7 +25,7 @@ pub fn push_number(out: &mut Vec<u8>, number: u64) -> Result<(), AllocError>
     out.extend_from_slice(buffer.format(number).as_bytes())
 }
 
-/// An address.
+/// Appends an address.
 pub fn push_address(out: &mut Vec<u8>, at: Address) -> Result<(), AllocError>
     ensures { OnOk result (out.new.items ≡ out.old.items ++ address at) }
 {
@@ -33,7 +33,7 @@ pub fn push_address(out: &mut Vec<u8>, at: Address) -> Result<(), AllocError>
     push_number(out, at.port() as u64)
 }
 
-/// Names in order, or that there are none.
+/// Appends names in order, or that there are none.
 pub fn push_names(out: &mut Vec<u8>, names: &[Name]) -> Result<(), AllocError>
     ensures { OnOk result (out.new.items ≡ out.old.items ++ all_names names.now) }
 {
@@ -46,7 +46,7 @@ pub fn push_names(out: &mut Vec<u8>, names: &[Name]) -> Result<(), AllocError>
     }
 }
 
-/// Further names, each behind a comma.
+/// Appends further names, each after a comma.
 fn push_further(out: &mut Vec<u8>, names: &[Name]) -> Result<(), AllocError>
     ensures { OnOk result (out.new.items ≡ out.old.items ++ further names.now) }
 {

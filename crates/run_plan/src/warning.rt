@@ -1,4 +1,4 @@
-//! What in a configuration is allowed, and serves nobody.
+//! Parts of a configuration that are allowed but of no use.
 ghost use Rattle.std.specs.Prelude.{◌≡◌, [], ◌∷◌};
 ghost use Rattle.std.specs.List.{list_all};
 ghost use Rattle.run_plan.specs.Warnings.{are_too_seldom, begins_nicks, is_of_nicks, is_taken_somewhere, is_warned};
@@ -8,19 +8,19 @@ use bouncer_config::Config;
 use irc_line::is_same;
 use std::fmt;
 
-/// How many times a leader is to be heard before the others take it for gone: one that is heard
-/// once may be late.
+/// How many times a leader must be heard before the others consider it gone: one that is heard once
+/// may be late.
 const LEAST_BEATS: u32 = 3;
 
 /// The password of the example.
 const KNOWN_PASSWORD: [u8; 13] = *b"correct-horse";
 
-/// What in a configuration is allowed, and serves nobody.
+/// A part of a configuration that is allowed but of no use.
 #[derive(Clone, Copy, Debug, PartialEq, Eq)]
 pub enum Warning {
-    /// Leaders are heard too seldom to stay.
+    /// Leaders are heard too rarely to last.
     BeatsTooSeldom,
-    /// No server takes the nick: RFC 2812, section 2.3.1, has what a nick is made of.
+    /// No server accepts the nick: RFC 2812, section 2.3.1, says which bytes a nick may have.
     NickIsTakenNowhere,
     /// The clients' password is that of the example.
     PasswordIsKnown,
@@ -43,7 +43,7 @@ impl fmt::Display for Warning {
 }
 
 impl Warning {
-    /// All that a configuration may be warned of.
+    /// All warnings about a configuration.
     pub const fn all() -> [Warning; 3]
         ensures { result ≡ BeatsTooSeldom ∷ NickIsTakenNowhere ∷ PasswordIsKnown ∷ [] }
     {
@@ -54,7 +54,7 @@ impl Warning {
         ]
     }
 
-    /// Whether a configuration is warned of this.
+    /// Whether this warning applies to a configuration.
     pub fn is_of(self, config: &Config) -> bool
         ensures { result ≡ is_warned self config.now }
     {
@@ -66,14 +66,14 @@ impl Warning {
     }
 }
 
-/// Whether a leader that beats so seldom, in milliseconds, is taken for gone too soon.
+/// Whether a leader with this interval of beats, in milliseconds, is considered gone too soon.
 fn are_too_seldom(beat_ms: u16, timeout_ms: u16) -> bool
     ensures { result ≡ are_too_seldom beat_ms timeout_ms }
 {
     (timeout_ms as u32) < LEAST_BEATS * beat_ms as u32
 }
 
-/// Whether some server takes a nick.
+/// Whether some server accepts a nick.
 fn is_taken_somewhere(nick: &[u8]) -> bool
     ensures { result ≡ is_taken_somewhere nick.now }
 {
@@ -83,7 +83,7 @@ fn is_taken_somewhere(nick: &[u8]) -> bool
     }
 }
 
-/// Whether a nick may have all of these bytes behind its first.
+/// Whether a nick may have all these bytes after its first.
 fn are_of_nicks(bytes: &[u8]) -> bool
     ensures { result ≡ list_all is_of_nicks bytes.now }
 {
@@ -94,10 +94,11 @@ fn are_of_nicks(bytes: &[u8]) -> bool
 fn begins_nicks(byte: u8) -> bool
     ensures { result ≡ begins_nicks byte }
 {
+    // RFC 2812 has only the first range; servers that allow more allow bytes past 127
     (b'A' <= byte && byte <= b'}') || 128 <= byte
 }
 
-/// Whether a nick may have a byte behind its first.
+/// Whether a nick may have a byte after its first.
 fn is_of_nicks(byte: u8) -> bool
     ensures { result ≡ is_of_nicks byte }
 {

@@ -11,7 +11,7 @@ use Rattle.session_fence.proofs.Ids.{same-is}
 use Rattle.irc_line.proofs.Booleans.{and_false, and_left, and_right}
 use Rattle.irc_line.proofs.Numbers.{eq_of, of_ne}
 
--- one number more
+-- one more number
 one_more : (taken : List ℕ) (k n : ℕ) → taken ≡ numbers_to k → n ≡ k + 1 → taken ++ n ∷ [] ≡ numbers_to (k + 1)
 one_more taken k n e f =
     let s : k + 1 ≡ suc k = omega arith in

@@ -1,4 +1,4 @@
--- Ids of sessions: when they are the same, and which is above.
+-- Ids of sessions: when they are the same, and which is greater.
 use Rattle.std.proofs.Common.{◌≡◌, ℕ, true, false, Option, Some, None, refl, ap, ◌∙◌, arith}
 use Rattle.std.proofs.lemmas.Bool.Decides.{nat_tests}
 use Rattle.machine_laws.specs.Sessions.{same_session, is_that}
@@ -24,7 +24,7 @@ below-not_same a b e = grind (arith, nat_tests)
 below-trans : (a b c : SessionId) → is_below a b ≡ true → is_below b c ≡ true → is_below a c ≡ true
 below-trans a b c e f = grind (arith, nat_tests)
 
--- what is above an id that is new is new
+-- an id above a new one is new
 pub new-above : (top : Option SessionId) (a b : SessionId) → is_new top a ≡ true → is_below a b ≡ true → is_new top b ≡ true
 new-above None a b e f = refl
 new-above (Some t) a b e f = below-trans t a b e f

@@ -1,4 +1,4 @@
--- What is kept of the sessions follows what came.
+-- What is kept about the sessions follows what came.
 use Rattle.std.proofs.Common.{◌≡◌, ℕ, ◌+◌, Bool, true, false, [], ◌∷◌, Option, Some, None, refl, ap, ◌∙◌, sym}
 use Rattle.std.specs.Prelude.{◌&&◌, ◌||◌, ◌==◌, if◌then◌else◌, Result, Ok, Err, OnOk}
 use Rattle.machine_laws.specs.Runs.{History}
@@ -43,7 +43,7 @@ module _ {C L : Type 0} where
   new-not_opened ((p, Shut i) ∷ h) j e = new-not_opened h j e
   new-not_opened ((p, Heard i n at l) ∷ h) j e = new-not_opened h j e
 
-  -- what was not opened was not shut after it
+  -- a session that was not opened was not shut after it
   pub not_opened-not_shut : (h : History (FenceCommand C L)) (j : SessionId) → was_opened h j ≡ false → was_shut h j ≡ false
   not_opened-not_shut [] j e = refl
   not_opened-not_shut ((p, Inner c) ∷ h) j e = not_opened-not_shut h j e
@@ -69,7 +69,7 @@ module _ {C L : Type 0} where
   unfolding session
   session-opened h id e = greatest-opened h id (unless-is h (greatest h) id e)
 
-  -- the session that is in force is taken to have had no line, where it was not opened before
+  -- a line of a session that was not opened is not counted
   uncounted_by : (h : History (FenceCommand C L)) (i j : SessionId) (a b c : Bool) → same_session i j ≡ a → is_that (session h) i ≡ b → was_opened h j ≡ false → (a && (b && c)) ≡ false
   uncounted_by h i j true true c s t e =
       let o : was_opened h i ≡ true = session-opened h i (that-is (session h) i t) in
@@ -113,7 +113,7 @@ module _ {C L : Type 0} where
   next-kept : (q : Session) (h : History (FenceCommand C L)) (id : SessionId) (n : ℕ) → IsKept q h → (is_that (now_of q) id && n == taken_of q + 1) ≡ (is_that (session h) id && n == lines_taken h id + 1)
   next-kept q h id n k = next_by q id n (lines_taken h id) (is_that (now_of q) id) refl (k.taken id) ∙ ap (λ s. is_that s id && n == lines_taken h id + 1) k.now
 
-  -- what is given to the machine below goes by what is kept
+  -- what the machine below gets depends on what is kept
   pub given-kept : (up down : C) (heard : ℕ → L → C) (q : Session) (h : History (FenceCommand C L)) (x : FenceCommand C L) → IsKept q h
       → given up down heard (top_of q) (now_of q) (λ _. taken_of q) x ≡ commands up down heard h x
   unfolding commands
@@ -153,7 +153,7 @@ module _ {C L : Type 0} where
       let s : same_session id id ≡ true = same-itself id in
       record { top = sym g; now = rw (g, s, o); taken = λ j j_is. absurd (is_some_not_none j (sym j_is)) }
 
-  -- a Shut of another session leaves what is in force, by what is kept
+  -- a Shut of another session does not change which session is in force, by what is kept
   unless-other : (q : Session) (h : History (FenceCommand C L)) (place : ℕ) (id : SessionId) → is_that (now_of q) id ≡ false → now_of q ≡ unless_shut h (top_of q) → now_of q ≡ unless_shut ((place, Shut id) ∷ h) (top_of q)
   unless-other Never h place id e k = refl
   unless-other (InForce i n) h place id e k = let s : same_session id i ≡ false = same-turned i id e in rw s k

@@ -1,4 +1,4 @@
--- Commands are a codec where the commands below and the lines are. These are lemmas, which need not be believed.
+-- Commands are a codec where the commands below and the lines are. These are lemmas; nothing here has to be trusted.
 use Rattle.std.proofs.Common.{◌≡◌, ℕ, List, [], ◌∷◌, ◌++◌, IsTrue, refl, arith}
 use Rattle.std.specs.Prelude.{is_some}
 use Rattle.wire_bytes.specs.Fields.{Reading, through, both, reading_of}

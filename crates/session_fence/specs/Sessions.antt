@@ -29,23 +29,23 @@ abbrev pub for_session : {E : Type 0} → SessionId → E → Option Parts → F
 for_session id e None = effect.Inner e
 for_session id e (Some line) = effect.Rejoin id line
 
--- the line that an effect sends for a client, and the client's origin: as below
+-- the line that an effect sends for a client, and the client's origin, as the machine below says
 abbrev pub sent : {E : Type 0} → (E → Option (Origin × Parts)) → FenceEffect E → Option (Origin × Parts)
 sent below (effect.Inner e) = below e
 sent below (effect.Rejoin id line) = None
 
 module _ {C L : Type 0} where
-  -- what an effect below is as one of this command
+  -- an effect of the machine below as an effect of this command
   abbrev pub labelled : {E : Type 0} → (E → Option Parts) → FenceCommand C L → E → FenceEffect E
   labelled rejoined (Opened id) e = for_session id e (rejoined e)
   labelled rejoined _ e = effect.Inner e
 
-  -- word that this session is opened
+  -- the command that opens this session
   abbrev pub opens : SessionId → FenceCommand C L → Bool
   opens id (Opened other) = same_session other id
   opens id _ = false
 
-  -- word that this session is shut
+  -- the command that shuts this session
   abbrev pub shuts : SessionId → FenceCommand C L → Bool
   shuts id (Shut other) = same_session other id
   shuts id _ = false
@@ -65,7 +65,7 @@ module _ {C L : Type 0} where
   was_opened [] id = false
   was_opened (x ∷ earlier) id = opens id x.1 || was_opened earlier id
 
-  -- a Shut of it follows its first Opened
+  -- a Shut for it follows its first Opened
   abbrev pub was_shut : History (FenceCommand C L) → SessionId → Bool
   was_shut [] id = false
   was_shut (x ∷ earlier) id = shuts id x.1 && was_opened earlier id || was_shut earlier id
@@ -79,7 +79,7 @@ module _ {C L : Type 0} where
   unfoldable pub session : History (FenceCommand C L) → Option SessionId
   session h = unless_shut h (greatest h)
 
-  -- a line of the session in force that comes next in it, by how many lines of each session were taken before
+  -- a line that is the next one of the session in force, by how many lines of each session were taken before
   abbrev pub is_next : Option SessionId → (SessionId → ℕ) → FenceCommand C L → Bool
   is_next now taken (Heard id n at l) = is_that now id && n == taken id + 1
   is_next now taken _ = false
@@ -107,8 +107,9 @@ module _ {C L : Type 0} where
       if is_line_of id x.1 && is_next (session earlier) (lines_taken earlier) x.1 then numbers_taken earlier id ++ number_of x.1 ∷ [] else numbers_taken earlier id
 
   module _ (up down : C) (heard : ℕ → L → C) where
-    -- The commands of the machine below that a command gives, in order: a new session is up, the one before it down first; the session in force
-    -- that is shut is down; the next line of the session in force is heard; all else of the sessions gives none
+    -- the commands for the machine below that a command gives, in order: a new session is up, after the one before it
+    -- is down; the session in force that is shut is down; the next line of the session in force is heard; any other
+    -- command about sessions gives none
     abbrev pub given : Option SessionId → Option SessionId → (SessionId → ℕ) → FenceCommand C L → List C
     given top now taken (Inner c) = c ∷ []
     given top now taken (Opened id) = if is_new top id then (if is_some now then down ∷ up ∷ [] else up ∷ []) else []

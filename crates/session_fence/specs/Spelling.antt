@@ -1,4 +1,5 @@
--- Commands as bytes: a kind byte, 0 for a command of the machine below, 1 for a session that is opened, 2 for one that is shut, 3 for a line of a session, and what it has.
+-- Commands as bytes: a kind byte, 0 for a command of the machine below, 1 for a session that is opened, 2 for one that
+-- is shut, 3 for a line of a session, followed by its fields.
 use Rattle.std.specs.Prelude.{ℕ, List, [], ◌∷◌, ◌++◌}
 use Rattle.wire_bytes.specs.Fields.{Reading, through, both, choice}
 use Rattle.wire_bytes.specs.Wants.{Wants, wants_behind, wants_choice}
@@ -7,15 +8,15 @@ use Rattle.wire_bytes.specs.declared.session_id.SessionId.{SessionId}
 use Rattle.session_fence.specs.declared.command.FenceCommand.{FenceCommand}
 use Rattle.session_fence.specs.declared.command.FenceCommand.TheVariants.{Inner, Opened, Shut, Heard}
 
--- a line of a session: the session, its number in it, its moment and itself
+-- a line of a session: the session, its number in it, its moment and the line itself
 abbrev pub spelled_heard : {L : Type 0} → (L → List ℕ) → SessionId → ℕ → ℕ → L → List ℕ
 spelled_heard line id n at l = ((spelled_session id ++ spelled_number n) ++ spelled_number at) ++ line l
 
--- a line of a session wants memory for itself alone
+-- a line of a session needs memory only for the line itself
 abbrev pub heard_wants : Wants → Wants
 heard_wants line = wants_behind (both (both session number) moment) line
 
--- which inputs may want memory: a command below does, and the line of a session
+-- which inputs may need memory: a command of the machine below and the line of a session
 abbrev pub command_wants : Wants → Wants → Wants
 command_wants command line = wants_choice ((0, command) ∷ (3, heard_wants line) ∷ [])
 
@@ -27,7 +28,7 @@ module _ {C L : Type 0} where
   command_kind (Shut id) = 2
   command_kind (Heard id n at l) = 3
 
-  -- what stands behind the kind byte
+  -- what follows the kind byte
   abbrev pub spelled_parts : (C → List ℕ) → (L → List ℕ) → FenceCommand C L → List ℕ
   spelled_parts command line (Inner c) = command c
   spelled_parts command line (Opened id) = spelled_session id
@@ -45,19 +46,19 @@ module _ {C L : Type 0} where
   FitsCommand command line (Shut id) = FitsSession id
   FitsCommand command line (Heard id n at l) = ((FitsSession id × FitsNumber n) × FitsMoment at) × line l
 
-  -- a command below, behind the kind byte
+  -- a command below, after the kind byte
   abbrev pub inner_taken : Reading C → Reading (FenceCommand C L)
   inner_taken command = through Inner command
 
-  -- word of a session that is opened
+  -- the opening of a session
   abbrev pub opened_taken : Reading (FenceCommand C L)
   opened_taken = through Opened session
 
-  -- word of one that is shut
+  -- the shutting of one
   abbrev pub shut_taken : Reading (FenceCommand C L)
   shut_taken = through Shut session
 
-  -- a line of a session, by its parts as they are read
+  -- a line of a session, from its parts as they are read
   abbrev pub heard_of : ((SessionId × ℕ) × ℕ) × L → FenceCommand C L
   heard_of p = Heard p.0.0.0 p.0.0.1 p.0.1 p.1
 

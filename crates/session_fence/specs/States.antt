@@ -1,4 +1,4 @@
--- What is kept of the sessions, and what it stands for. These are the machine's inner steps, which need not be believed.
+-- What is kept about the sessions, and what it means. These are the machine's inner steps, which need not be trusted.
 use Rattle.std.specs.Prelude.{◌≡◌, ℕ, ◌+◌, ◌&&◌, ◌==◌, if◌then◌else◌, List, map, Option, Some, None}
 use Rattle.irc_line.specs.Lines.{Parts}
 use Rattle.machine_laws.specs.Runs.{History, effects_at}
@@ -41,11 +41,11 @@ module _ {C L : Type 0} (up down : C) (heard : ℕ → L → C) where
   abbrev pub given_by : Session → FenceCommand C L → List C
   given_by q x = given up down heard (top_of q) (now_of q) (λ _. taken_of q) x
 
-  -- what a command brings about at a place, by what is kept and what came below
+  -- what a command brings about at a place, by what is kept and by the effects below
   abbrev pub brought_by : {S E : Type 0} → (E → Option Parts) → (S → History C → ℕ → C → List E) → Session → ℕ → FenceCommand C L → S → History C → List (FenceEffect E)
   brought_by rejoined effects q place x s below = map (labelled rejoined x) (effects_at (effects s) place (given_by q x) below)
 
--- what is kept stands for what came
+-- what is kept agrees with what came
 pub record IsKept {C L : Type 0} (q : Session) (h : History (FenceCommand C L)) : Type 0 where
   pub top : top_of q ≡ greatest h
   pub now : now_of q ≡ session h

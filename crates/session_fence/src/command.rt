@@ -9,7 +9,7 @@ ghost use Rattle.wire_bytes.specs.Reads.{Reads, Refuses, WantsWhere};
 use std::alloc::{AllocError, Global};
 use wire_bytes::{Copied, Moment, Number, SessionId, Wire, WireFault, take_behind, undo};
 
-/// A command of the machine below, or word of the sessions with upstream.
+/// A command of the machine below, or a report about the sessions with upstream.
 #[derive(Drop)]
 pub enum FenceCommand<C, L> {
     Inner(C),
@@ -17,7 +17,7 @@ pub enum FenceCommand<C, L> {
     Opened(SessionId),
     /// The session is shut; it is down.
     Shut(SessionId),
-    /// A line of the session that came at a moment; each session numbers its lines from 1.
+    /// A line of the session that came at this moment; each session numbers its lines from 1.
     Heard(SessionId, Number, Moment, L),
 }
 
@@ -37,8 +37,8 @@ impl<C: Copied, L: Copied> Copied for FenceCommand<C, L> {
     }
 }
 
-/// A kind byte, 0 for a command below, 1 for opened, 2 for shut, 3 for a line; then the session and, of a line, its
-/// number, its moment and itself.
+/// A kind byte, 0 for a command below, 1 for opened, 2 for shut, 3 for a line; then the session and, for a line, its
+/// number, its moment and the line itself.
 impl<C: Wire, L: Wire> Wire for FenceCommand<C, L> {
     ghost spelled = { spelled_command C.spelled L.spelled };
 
@@ -89,7 +89,7 @@ impl<C: Wire, L: Wire> Wire for FenceCommand<C, L> {
         C.is_codec L.is_codec };
 }
 
-/// Appends what a line of a session has, behind its kind byte, or leaves the items as they were.
+/// Appends the fields of a session's line, after its kind byte, or leaves the items as they were.
 fn put_heard<L: Wire>(
     out: &mut Vec<u8>,
     id: SessionId,
@@ -110,7 +110,7 @@ fn put_heard<L: Wire>(
     undo(out, len, outcome)
 }
 
-/// The command below, behind a kind byte.
+/// The command below, after a kind byte.
 #[tactic(auto, using(wire_bytes::proofs::Steps::composed))]
 fn take_inner<C: Wire, L: Wire>(
     alloc: Global,
@@ -125,7 +125,7 @@ fn take_inner<C: Wire, L: Wire>(
     Ok((FenceCommand::Inner(command), end))
 }
 
-/// Word of a session that is opened, behind a kind byte.
+/// The opening of a session, after a kind byte.
 #[tactic(auto, using(wire_bytes::proofs::Steps::composed))]
 fn take_opened<C: Drop, L: Drop>(
     alloc: Global,
@@ -140,7 +140,7 @@ fn take_opened<C: Drop, L: Drop>(
     Ok((FenceCommand::Opened(id), end))
 }
 
-/// Word of a session that is shut, behind a kind byte.
+/// The shutting of a session, after a kind byte.
 #[tactic(auto, using(wire_bytes::proofs::Steps::composed))]
 fn take_shut<C: Drop, L: Drop>(
     alloc: Global,
@@ -155,7 +155,7 @@ fn take_shut<C: Drop, L: Drop>(
     Ok((FenceCommand::Shut(id), end))
 }
 
-/// The line of a session, behind a kind byte.
+/// The line of a session, after a kind byte.
 #[tactic(auto, using(wire_bytes::proofs::Steps::composed))]
 fn take_heard<C: Drop, L: Wire>(
     alloc: Global,

@@ -10,7 +10,7 @@ use wire_bytes::{Copied, SessionId};
 pub enum FenceEffect<E> {
     /// An effect of the machine below.
     Inner(E),
-    /// The session that was opened sends this line upstream, which joins a channel again.
+    /// The session that was opened sends this line upstream; it joins a channel again.
     Rejoin(SessionId, Line),
 }
 

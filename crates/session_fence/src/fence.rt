@@ -13,8 +13,8 @@ use machine_laws::{ApplyFault, HasClients, HasLines, HasSession, Machine};
 use std::alloc::{AllocError, Global};
 use wire_bytes::{Moment, Number, Origin, SessionId};
 
-/// A machine whose sessions with upstream follow one another: a session that is opened under an id above all earlier
-/// ones is in force until it is shut or another such is opened; its lines are taken in their order, each once; what
+/// A machine whose sessions with upstream follow one another. A session that is opened under an id above all earlier
+/// ones is in force until it is shut or another such session is opened. Its lines are taken in order, each once. What
 /// any other session says changes nothing.
 #[derive(Drop)]
 pub struct Fence<M: HasLines> {

@@ -1,4 +1,4 @@
-//! That each line of a session is heard once and in order.
+//! Each line of a session is heard once and in order.
 ghost use Rattle.std.specs.Prelude.{◌≡◌, ◌≢◌, ◌+◌, [], ℕ, false};
 ghost use Rattle.machine_laws.specs.Runs.{History};
 ghost use Rattle.machine_laws.specs.Sessions.{is_that};

@@ -1,6 +1,6 @@
-//! Sessions with upstream that follow one another, over any machine that is told of upstream's lines.
-//! Stands under bouncer_tower, client_gate and driver, among others.
-//! Promises that a line from upstream takes effect once, in order, under the session in force.
+//! Sessions with upstream that follow one another, over any machine that gets upstream's lines. Used by bouncer_tower,
+//! client_gate and driver, among others. Promises that a line from upstream takes effect once, in order, under the
+//! session in force.
 #![tactic(auto)]
 
 mod command;

@@ -1,4 +1,4 @@
-//! What is kept of the sessions with upstream.
+//! What is kept about the sessions with upstream.
 ghost use Rattle.std.specs.Prelude.{◌≡◌, ◌+◌, ◌&&◌, ◌==◌};
 ghost use Rattle.session_fence.specs.Sessions.{is_new};
 ghost use Rattle.machine_laws.specs.Sessions.{is_that};
@@ -6,12 +6,12 @@ ghost use Rattle.session_fence.specs.States.{top_of, now_of, taken_of};
 
 use wire_bytes::{Number, SessionId};
 
-/// What is kept of the sessions with upstream.
+/// What is kept about the sessions with upstream.
 #[derive(Clone, Copy)]
 pub enum Session {
     /// None was opened.
     Never,
-    /// The one with the greatest id is in force, and so many of its lines were taken.
+    /// The one with the greatest id is in force, and this many of its lines were taken.
     InForce(SessionId, Number),
     /// The one with the greatest id was shut.
     Over(SessionId),

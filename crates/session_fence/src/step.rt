@@ -1,4 +1,4 @@
-//! What a command does to the machine below and to what is kept of the sessions.
+//! What a command does to the machine below and to what is kept about the sessions.
 ghost use Rattle.std.specs.Prelude.{◌≡◌, ◌∷◌, [], map, IfOk, IfErr, OnOk, false};
 ghost use Rattle.machine_laws.specs.Runs.{Brings, Moves, effects_at};
 ghost use Rattle.session_fence.specs.Sessions.{for_session};
@@ -18,7 +18,7 @@ fn passed_on<E: Drop>(alloc: Global, effects: Vec<E>) -> Result<Vec<FenceEffect<
     effects.into_iter().map(FenceEffect::Inner).collect(alloc)
 }
 
-/// An effect of the machine below, where it joins a channel again, as one of this session.
+/// An effect of the machine below; where it joins a channel again, as one of this session.
 fn for_session<M: HasLines>(id: SessionId, effect: M::Effect) -> FenceEffect<M::Effect>
     ensures { result ≡ for_session id effect (M.rejoined effect) }
 {
@@ -43,7 +43,7 @@ fn all_for_session<M: HasLines>(
         .collect(alloc)
 }
 
-/// Word to the machine below that there is a new session, where one was before.
+/// The commands for the machine below when a new session replaces one.
 fn go_down_and_up<M: HasLines>(machine: &mut M, place: u64) -> Result<Vec<M::Effect>, ApplyFault>
     requires { M.spoilt machine.old ≡ false }
     ensures stands { Moves (M.stands machine.old) (M.stands machine.new) result place (M.down ∷ M.up
@@ -61,7 +61,8 @@ fn go_down_and_up<M: HasLines>(machine: &mut M, place: u64) -> Result<Vec<M::Eff
     Ok(effects)
 }
 
-/// A session is opened: it is up, and the one before it down first. One that is not above all earlier ones is nothing.
+/// Opens a session: it is up, after the one before it is down. An id that is not above all earlier ones changes
+/// nothing.
 fn open<M: HasLines>(
     alloc: Global,
     machine: &mut M,
@@ -83,6 +84,7 @@ fn open<M: HasLines>(
     if !session.is_new(id) {
         return Ok(Vec::new(alloc));
     }
+    // only its own leader shuts a session, so that of an earlier leader may still be in force
     let effects = if session.now().is_some() {
         go_down_and_up(machine, place)?
     } else {
@@ -93,7 +95,7 @@ fn open<M: HasLines>(
     Ok(all_for_session::<M>(alloc, id, effects)?)
 }
 
-/// The session in force is shut: it is down. Any other is nothing.
+/// Shuts the session in force: it is down. Any other changes nothing.
 fn shut<M: HasLines>(
     alloc: Global,
     machine: &mut M,
@@ -121,7 +123,7 @@ fn shut<M: HasLines>(
     Ok(passed_on(alloc, effects)?)
 }
 
-/// The line of a session, to the machine below where it is the next of the session in force.
+/// Passes the line of a session to the machine below where it is the next of the session in force.
 fn hear<M: HasLines>(
     alloc: Global,
     machine: &mut M,
@@ -152,7 +154,7 @@ fn hear<M: HasLines>(
     Ok(passed_on(alloc, effects)?)
 }
 
-/// What a command does to the machine below and to what is kept of the sessions.
+/// Applies a command to the machine below and to what is kept about the sessions.
 pub fn step<M: HasLines>(
     alloc: Global,
     machine: &mut M,

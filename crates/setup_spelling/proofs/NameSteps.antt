@@ -1,4 +1,4 @@
--- Names of channels that are read one behind the other.
+-- Names of channels that are read one after the other.
 use Rattle.std.proofs.Common.{◌≡◌, ℕ, zero, suc, ◌+◌, ◌-◌, ◌<◌, Bool, true, false, List, [], ◌∷◌, ◌++◌, length, drop, Option, Some, None, Result, Ok, Err, IsTrue, refl, sym, ap, ◌∙◌, arith, add-zero, append_assoc, append-nil}
 use Rattle.std.specs.Prelude.{◌||◌, if◌then◌else◌, is_ok, slice_get}
 use Rattle.irc_line.specs.Names.{is_channel}
@@ -13,7 +13,7 @@ use Rattle.wire_bytes.proofs.Wanting.{IsHeld}
 use Rattle.buffer_commands.specs.Spellings.{channel_name}
 use Rattle.setup_spelling.specs.Spelling.{channel_after, channels, channels_after, is_after, last_of}
 
--- what was read at a place, where it passes this test
+-- what was read at a place, if it passes this test
 abbrev tested_at : {X : Type 0} → ℕ → (X → Bool) → Result (X × ℕ) WireFault → Result (X × ℕ) WireFault
 tested_at place test (Ok r) = if test r.0 then Ok r else Err (Bad place)
 tested_at place test (Err e) = Err e
@@ -53,12 +53,12 @@ module _ (place : ℕ) (before : Option (List ℕ)) (input : List ℕ) where
   pub not_after : (v : List ℕ) (n : ℕ) → behind place name input ≡ Ok (v, n) → is_channel v ≡ true → is_after before v ≡ false → behind place (channel_after before) input ≡ Err (Bad place)
   not_after v n h c a = channel_at place before input ∙ (ap (λ r. tested_at place (is_after before) (tested_at place is_channel r)) h ∙ rw (c, a) refl)
 
--- ---- one name behind the other
+-- ---- one name after the other
 
 abbrev Names : Type 0
 Names = Result (List (List ℕ) × ℕ) WireFault
 
--- these before what was read
+-- these names before those that were read
 abbrev pub joined : List (List ℕ) → Names → Names
 joined front (Ok r) = Ok (front ++ r.0, r.1)
 joined front (Err e) = Err e
@@ -94,7 +94,7 @@ module _ (input : List ℕ) where
   step_by c k m (Ok r) h = through-read (λ cs. c ∷ cs) (channels_after m (Some c)) k input r.0 r.1 h
   step_by c k m (Err e) h = through-stops (λ cs. c ∷ cs) (channels_after m (Some c)) k input e h
 
-  -- one was read, and so many are left
+  -- one was read, and this many are left
   names_step : (place n k : ℕ) (before : Option (List ℕ)) (c : List ℕ) → 0 < n → behind place (channel_after before) input ≡ Ok (c, k)
       → behind place (channels_after n before) input ≡ joined (c ∷ []) (behind k (channels_after (n - 1) (Some c)) input)
   names_step place zero k before c pos h = absurd (omega (arith, pos))
@@ -111,7 +111,7 @@ module _ (input : List ℕ) where
   pub names_end : (place n : ℕ) (before : Option (List ℕ)) → n ≡ 0 → behind place (channels_after n before) input ≡ Ok ([], place)
   names_end place n before h = ap (λ (i : ℕ). behind place (channels_after i before) input) h ∙ behind-done place [] input
 
-  -- one more was read behind these
+  -- one more was read after these
   pub one_more : (place count end next left : ℕ) (names more : List (List ℕ)) (c : List ℕ) → 0 < left → more ≡ names ++ c ∷ []
       → joined names (behind end (channels_after left (last_of names)) input) ≡ behind place (channels_after count None) input
       → behind end (channel_after (last_of names)) input ≡ Ok (c, next)
@@ -130,7 +130,7 @@ module _ (input : List ℕ) where
   unfolding channels ◌>>=◌
   count_goes n k h = ap goes h
 
--- ---- what wants memory
+-- ---- what needs memory
 
 or_held : (a b : Bool) → IsTrue (a || b) → (IsTrue b → ⊥) → IsTrue a
 or_held true b h none = refl
@@ -140,7 +140,7 @@ next_held : {X : Type 0} (second : Wants) (r : Result (X × ℕ) WireFault) (inp
 next_held second (Ok r) input held h = held (drop r.1 input) h
 next_held second (Err e) input held h = absurd cc
 
--- where the second value is held in place, the first wants what both want
+-- where the second value is held in place, the first needs memory where both together do
 pub first_wants : {X : Type 0} (first : Wants) (reading : Reading X) (second : Wants) (input : List ℕ) → IsHeld second → IsTrue (wants_both first reading second input) → IsTrue (first input)
 first_wants first reading second input held h = or_held (first input) (wants_next (reading input) second input) h (next_held second (reading input) input held)
 
@@ -148,6 +148,6 @@ whole_by : {X : Type 0} (r : Result (X × ℕ) WireFault) (second : Wants) (inpu
 whole_by (Ok r) second input h = refl
 whole_by (Err e) second input h = absurd cc
 
--- what is wanted behind a value that is copied is wanted once this stands whole
+-- memory that is needed after a value that is copied is needed only once that value is there whole
 pub whole_first : {X : Type 0} (reading : Reading X) (second : Wants) (input : List ℕ) → IsTrue (wants_both (once_whole reading) reading second input) → IsTrue (once_whole reading input)
 whole_first reading second input h = whole_by (reading input) second input h

@@ -1,4 +1,4 @@
--- Setups are a codec. These lemmas need not be believed.
+-- Setups are a codec. These lemmas need not be trusted.
 use Rattle.std.proofs.Common.{◌≡◌, ℕ, ◌^◌, zero, suc, ◌≤◌, Bool, true, false, List, [], ◌∷◌, ◌++◌, length, drop, Option, Some, None, IsTrue, refl, sym, ap, subst, ◌∙◌, arith}
 use Rattle.std.specs.Prelude.{◌&&◌, nat_le}
 use Rattle.std.specs.Int.{w16}
@@ -40,7 +40,7 @@ abbrev rise_after : Option (List ℕ) → List (List ℕ) → Bool
 rise_after None cs = are_rising cs
 rise_after (Some before) cs = are_rising (before ∷ cs)
 
--- so many channels that rise after a name
+-- this many channels that rise after a name
 record AreAfter (before : Option (List ℕ)) (n : ℕ) (cs : List (List ℕ)) : Type 0 where
   pub named : IsTrue (list_all is_channel cs)
   pub rise : IsTrue (rise_after before cs)
@@ -66,7 +66,7 @@ all_rise : (before : Option (List ℕ)) (c : List ℕ) (cs : List (List ℕ)) �
 all_rise None c cs a h = h
 all_rise (Some b) c cs a h = all_true (is_below_all b (c ∷ cs)) (are_rising (c ∷ cs)) a h
 
--- the first of some channels, and the others
+-- the first of some channels, and the rest
 split : (before : Option (List ℕ)) (n : ℕ) (cs : List (List ℕ)) → AreAfter before (suc n) cs → (c : List ℕ) × (FitsChannel c × IsTrue (is_after before c)) × ((others : List (List ℕ)) × (cs ≡ c ∷ others))
 split before n [] h = absurd (omega (arith, h.counted))
 split before n (c ∷ cs) h = (c, (and_left (is_channel c) (list_all is_channel cs) h.named, (first_rises before c cs h.rise).0), (cs, refl))
@@ -75,7 +75,7 @@ split before n (c ∷ cs) h = (c, (and_left (is_channel c) (list_all is_channel 
 abbrev FirstIs : List ℕ → List (List ℕ) → Type 0
 FirstIs c cs = (others : List (List ℕ)) × (cs ≡ c ∷ others)
 
--- what stands behind the first
+-- what follows the first
 abbrev rest_spelled : List (List ℕ) → List ℕ
 rest_spelled cs = spelled_names (drop 1 cs)
 
@@ -131,7 +131,7 @@ from_channels n cs h e = record {
   counted = e;
 }
 
--- the same codec, its limits in other words
+-- the same codec, with its limits in other words
 refit : {X : Type 0} (spelled : X → List ℕ) (fits other : X → Type 0) (taken : Reading X) → IsCodec spelled fits taken → ((v : X) → fits v → other v) → ((v : X) → other v → fits v) → IsCodec spelled other taken
 refit spelled fits other taken codec to from = record {
   read_back = λ v rest h. codec.read_back v rest (from v h);
@@ -169,8 +169,8 @@ options_is_codec =
 abbrev spelled_fields : SetupFields → List ℕ
 spelled_fields p = (sized p.0.0 ++ spelled_channels p.0.1) ++ spelled_options p.1
 
--- the fields of a setup are within their limits: the nick is a name, and channels and options are such as a setup
--- may have
+-- the fields of a setup are within their limits: the nick is a name, and the channels and options are allowed in a
+-- setup
 abbrev FitFields : SetupFields → Type 0
 FitFields p = (IsTrue (is_name p.0.0) × IsTrue (are_channels p.0.1)) × FitOptions p.1
 

@@ -25,16 +25,16 @@ last_of names = slice_get names (length names - 1)
 unfoldable pub channel_after : Option (List ℕ) → Reading (List ℕ)
 channel_after before = only (is_after before) channel_name
 
--- so many channels, each after the one before it
+-- this many channels, each after the one before it
 abbrev pub channels_after : ℕ → Option (List ℕ) → Reading (List (List ℕ))
 channels_after zero before = done []
 channels_after (suc n) before = channel_after before >>= λ c. through (λ cs. c ∷ cs) (channels_after n (Some c))
 
--- the channels at the front of an input: how many, and as many names, in rising order of folded name
+-- the channels at the front of an input: their number, and that many names, in rising order of folded name
 unfoldable pub channels : Reading (List (List ℕ))
 channels = byte_within 0 channel_limit >>= λ n. channels_after n None
 
--- names as bytes, one behind the other, each behind its length
+-- names as bytes, one after the other, each after its length
 abbrev pub spelled_names : List (List ℕ) → List ℕ
 spelled_names [] = []
 spelled_names (n ∷ names) = sized n ++ spelled_names names
@@ -61,7 +61,8 @@ query_count = byte_within 1 query_limit
 unfoldable pub offset_minutes : Reading ℕ
 offset_minutes = number_to w16 2878
 
--- lines of a channel and of a query, queries, whether playing empties channels and queries and many clients may be attached, offset
+-- lines of a channel and of a query, queries, whether playing empties channels and queries and whether many clients may
+-- be attached, offset
 abbrev pub OptionFields : Type 0
 OptionFields = (((((ℕ × ℕ) × ℕ) × Bool) × Bool) × Bool) × ℕ
 

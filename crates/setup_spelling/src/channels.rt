@@ -120,7 +120,7 @@ pub fn put_name(out: &mut Vec<u8>, name: &Name) -> Result<(), AllocError>
     name.put(out)
 }
 
-/// Reads so many names from a place of the input on, each of which comes after the one before it.
+/// Reads this many names from a place of the input on, each of which comes after the one before it.
 /// Places and the end are counted from the input's front.
 fn take_names(
     alloc: Global,
@@ -146,7 +146,7 @@ fn take_names(
     Ok((names, end))
 }
 
-/// Reads the name of a channel from a place of the input on, which comes after the last of these.
+/// Reads the name of a channel from a place of the input on; it must come after the last of these.
 fn take_channel(
     alloc: Global,
     input: &[u8],
@@ -161,6 +161,7 @@ fn take_channel(
     ensures within { IfOk result (λ r. r.1 ≤ length input.now) }
 {
     let (name, end) = take_behind::<Name>(alloc, input, place)?;
+    // only rising names are read, since each setup has one spelling
     if name.is_channel() && comes_after(before, &name) {
         Ok((name, end))
     } else {

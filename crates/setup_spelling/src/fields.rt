@@ -82,7 +82,7 @@ impl Wire for LineCount {
     ghost is_codec = { line_count_is_codec };
 }
 
-/// How many queries there are at the most, 1 to 50: one byte.
+/// How many queries there may be, 1 to 50: one byte.
 ///
 /// A clause sees it as the number.
 #[derive(Clone, Copy, Debug, PartialEq, Eq)]
@@ -156,7 +156,7 @@ impl Wire for QueryCount {
     ghost is_codec = { byte-codec 1 query_limit };
 }
 
-/// By how many minutes the clock is ahead of UTC, with 1,439 added to them, at most 2,878: two bytes.
+/// How many minutes the clock is ahead of UTC, with 1,439 added, at most 2,878: two bytes.
 ///
 /// A clause sees it as that number.
 #[derive(Clone, Copy, Debug, PartialEq, Eq)]

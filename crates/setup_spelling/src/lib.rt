@@ -1,5 +1,4 @@
-//! What a bouncer is set up with, as bytes.
-//! Stands under records, world_app and bouncer_run, among others.
+//! The setup of a bouncer, as bytes. Used by records, world_app and bouncer_run, among others.
 //! Promises that a setup has one spelling, which is read back whatever follows it.
 #![tactic(auto)]
 

@@ -6,14 +6,14 @@ use crate::fields::{LineCount, OffsetMinutes, QueryCount};
 use buffer_commands::{Options, Setup};
 use buffer_lines::Offset;
 
-/// Lines of a channel and of a query, queries, whether playing empties channels and queries and many
-/// clients may be attached, and the offset.
+/// Lines of a channel and of a query, queries, whether playing empties channels and queries and whether many clients
+/// may be attached, and the offset.
 pub type OptionFields = (
     (((((LineCount, LineCount), QueryCount), bool), bool), bool),
     OffsetMinutes,
 );
 
-/// The options of a setup, as they are spelled.
+/// The options of a setup, as the fields that are written.
 pub fn fields_of(setup: &Setup) -> OptionFields
     ensures value { result ≡ options_in setup.now }
     ensures fit { FitOptions (options_in setup.now) }
@@ -27,7 +27,7 @@ pub fn fields_of(setup: &Setup) -> OptionFields
     ((clears, setup.many_clients()), offset)
 }
 
-/// The options that are spelled so.
+/// The options with these fields.
 pub fn options_of(fields: OptionFields) -> Options
     ensures value { AreOptionsOf fields result }
     ensures sizes { IsTrue (are_sizes result) }

@@ -64,9 +64,9 @@ impl Copied for WireSetup {
     }
 }
 
-/// The nick; the number of channels in one byte, and their names; how many lines a channel and a query
-/// keep and how many queries there are, in two, two and one bytes; whether playing empties channels and
-/// queries and many clients may be attached; the offset's minutes and 1,439 in two bytes.
+/// The nick; the number of channels in one byte, and their names; how many lines a channel and a query keep and how
+/// many queries there are, in two, two and one bytes; whether playing empties channels and queries and whether many
+/// clients may be attached; the offset's minutes and 1,439 in two bytes.
 impl Wire for WireSetup {
     ghost use Rattle.wire_bytes.specs.Contents.{name};
     ghost use Rattle.wire_bytes.specs.Wants.{once_whole};
@@ -104,8 +104,8 @@ fn made(nick: Name, channels: Channels, fields: OptionFields) -> Setup
     Setup::new(nick, channels.into_names(), options).unwrap()
 }
 
-/// Appends the spelling of a setup, or leaves the items as they were. It is refused only where room is
-/// missing and no memory is left.
+/// Appends the spelling of a setup, or leaves the items as they were. It is refused only if room is missing and no
+/// memory is left.
 #[tactic(auto, unfolding(crate::specs::Spelling::spelled_setup))]
 pub fn put_setup(out: &mut Vec<u8>, setup: &Setup) -> Result<(), AllocError>
     ensures items { out.new.items ≡ appended result out.old.items (spelled_setup setup.now) }

@@ -1,4 +1,4 @@
--- Items that are read one behind the other.
+-- Items that are read one after the other.
 use Rattle.std.proofs.Common.{◌≡◌, ℕ, zero, suc, ◌-◌, ◌<◌, ◌≤◌, ◌&&◌, ◌||◌, inl, inr, Bool, true, false, List, [], ◌∷◌, ◌++◌, drop, Result, Ok, Err, is_ok, IsTrue, refl, sym, ap, subst, ◌∙◌, arith, append_assoc, append-nil}
 use Rattle.std.proofs.lemmas.Bool.{cases_lt, lt-ltb}
 use Rattle.wire_bytes.specs.declared.wire_fault.WireFault.{WireFault}
@@ -11,7 +11,7 @@ use Rattle.raft_log.specs.Batches.{batch_limit}
 use Rattle.stable_store.specs.Lists.{joined_pair, many, counted, wants_many, wants_by, wants_counted}
 
 module _ {X : Type 0} where
-  -- these before what was read
+  -- these before those that were read
   abbrev pub joined : List X → Result (List X × ℕ) WireFault → Result (List X × ℕ) WireFault
   joined front (Ok r) = Ok (front ++ r.0, r.1)
   joined front (Err e) = Err e
@@ -33,7 +33,7 @@ module _ {X : Type 0} where
     step_by place x k m (Err d) h e =
         through-stops joined_pair (both reading (many m reading)) place input d (both-stops_behind reading (many m reading) place input x k d h e)
 
-    -- one was read, and so many are left
+    -- one was read, and this many are left
     pub many-step : (place : ℕ) (x : X) (k n : ℕ) → 0 < n → behind place reading input ≡ Ok (x, k) → behind place (many n reading) input ≡ joined (x ∷ []) (behind k (many (n - 1) reading) input)
     many-step place x k zero pos h = absurd (omega arith)
     many-step place x k (suc m) pos h =
@@ -61,7 +61,7 @@ module _ {X : Type 0} (reading : Reading X) (input : List ℕ) where
   unfolding counted ◌>>=◌
   counted-goes n k h = ap goes h
 
--- ---- what wants memory
+-- ---- what needs memory
 
 or_left : (a b : Bool) → IsTrue a → IsTrue (a || b)
 or_left true b h = refl
@@ -75,11 +75,11 @@ module _ {X : Type 0} (wants : Wants) (reading : Reading X) (input : List ℕ) w
   wants_of-one : (n : ℕ) → 0 < n → IsTrue (wants input || is_ok (reading input)) → IsTrue (wants_many n wants reading input)
   wants_of-one n pos h = ap (λ (b : Bool). b && (wants input || is_ok (reading input))) (lt-ltb 0 n pos) ∙ h
 
-  -- what was read is kept apart
+  -- an item that was read is kept apart
   pub was_read : (place : ℕ) (x : X) (k : ℕ) → behind place reading input ≡ Ok (x, k) → IsTrue (is_ok (reading (drop place input)))
   was_read place x k e = let b = behind-ok place reading input x k e in ap (λ (r : Result (X × ℕ) WireFault). is_ok r) b.1
 
-  -- the first item of so many was read, where fewer are left or the next one was read
+  -- the first item of this many was read, if fewer are left or the next one was read
   pub first_was_read : (place end count left : ℕ) → (left < count → IsTrue (is_ok (reading (drop place input)))) → (left ≡ count → end ≡ place) → left ≤ count
       → IsTrue (is_ok (reading (drop end input))) → IsTrue (is_ok (reading (drop place input)))
   first_was_read place end count left some none few h =
@@ -89,7 +89,7 @@ module _ {X : Type 0} (wants : Wants) (reading : Reading X) (input : List ℕ) w
       ]
 
 module _ {X : Type 0} (wants : Wants) (reading : Reading X) (input : List ℕ) where
-  -- memory may be wanted for one more of so many items, and where one was read
+  -- memory may be needed for one more of this many items, and where one was read
   pub many_want : (place end count left : ℕ) → (left < count → IsTrue (is_ok (reading (drop place input)))) → (left ≡ count → end ≡ place) → left ≤ count → 0 < left
       → IsTrue (wants (drop end input)) → IsTrue (wants_many count wants reading (drop place input))
   many_want place end count left some none few pos h =
@@ -103,6 +103,6 @@ module _ {X : Type 0} (wants : Wants) (reading : Reading X) (input : List ℕ) w
   pub many_want_room : (place count : ℕ) → 0 < count → IsTrue (is_ok (reading (drop place input))) → IsTrue (wants_many count wants reading (drop place input))
   many_want_room place count pos h = wants_of-one wants reading (drop place input) count pos (or_right (wants (drop place input)) (is_ok (reading (drop place input))) h)
 
-  -- the same, behind their number
+  -- the same after their number
   pub counted_wants : (n k : ℕ) → number_to w16 batch_limit input ≡ Ok (n, k) → IsTrue (wants_many n wants reading (drop k input)) → IsTrue (wants_counted wants reading input)
   counted_wants n k e h = subst (λ (r : Result (ℕ × ℕ) WireFault). IsTrue (wants_by r wants reading input)) (sym e) h

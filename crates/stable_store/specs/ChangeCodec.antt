@@ -1,4 +1,4 @@
--- Changes are a codec where the bodies are. These lemmas need not be believed.
+-- Changes are a codec where the bodies are. These lemmas need not be trusted.
 use Rattle.std.proofs.Common.{◌≡◌, ℕ, zero, suc, ◌≤◌, List, [], ◌∷◌, ◌++◌, Option, None, Some, refl, ap, arith}
 use Rattle.wire_bytes.specs.Fields.{Reading, byte_within, both}
 use Rattle.wire_bytes.specs.Codecs.{IsCodec, through-codec, both-codec}
@@ -34,7 +34,7 @@ module _ {B : Type 0} (spelled : B → List ℕ) (fits : B → Type 0) (taken : 
   abbrev Parts : Type 0
   Parts = (((ℕ × ℕ) × ℕ) × ℕ) × List (Entry B)
 
-  -- what is spelled before the entries
+  -- what comes before the entries in the bytes
   abbrev front : ((ℕ × ℕ) × ℕ) × ℕ → List ℕ
   front p = ((spelled_number p.0.0.0 ++ spelled_number p.0.0.1) ++ p.0.1 ∷ []) ++ spelled_number p.1
 

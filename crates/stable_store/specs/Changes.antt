@@ -1,4 +1,4 @@
--- Changes, and how they are spelled.
+-- Changes, and their bytes.
 use Rattle.std.specs.Prelude.{ℕ, zero, suc, ◌≤◌, List, [], ◌∷◌, ◌++◌, Option, None, Some}
 use Rattle.wire_bytes.specs.Fields.{Reading, byte_within, both, through}
 use Rattle.wire_bytes.specs.Wants.{Wants, never, wants_both}
@@ -20,7 +20,7 @@ abbrev pub IsVote : Option ℕ → Type 0
 IsVote None = Unit {0}
 IsVote (Some node) = 1 ≤ node
 
--- none, or a node that is spelled in one byte
+-- none, or a node whose number fits into one byte
 abbrev pub FitsVote : Option ℕ → Type 0
 FitsVote None = Unit {0}
 FitsVote (Some node) = (1 ≤ node) × (node ≤ 255)
@@ -35,7 +35,7 @@ abbrev pub vote_of : ℕ → Option ℕ
 vote_of zero = None
 vote_of (suc n) = Some (suc n)
 
--- what stands before the entries
+-- what comes before the entries
 abbrev pub numbers_taken : Reading (((ℕ × ℕ) × ℕ) × ℕ)
 numbers_taken = both (both (both number number) (byte_within 0 255)) number
 
@@ -44,7 +44,7 @@ module _ {B : Type 0} where
   abbrev pub change : ℕ → ℕ → Option ℕ → ℕ → List (Entry B) → ChangeParts B
   change boot term vote keep entries = record { boot = boot; term = term; vote = vote; keep = keep; entries = entries }
 
-  -- the same, as they are read
+  -- a change from its parts as they are read
   abbrev pub change_of : (((ℕ × ℕ) × ℕ) × ℕ) × List (Entry B) → ChangeParts B
   change_of p = change p.0.0.0.0 p.0.0.0.1 (vote_of p.0.0.1) p.0.1 p.1
 
@@ -60,6 +60,6 @@ module _ {B : Type 0} where
   unfoldable pub change_taken : Reading B → Reading (ChangeParts B)
   change_taken body = through change_of (both numbers_taken (counted (entry_taken body)))
 
-  -- a change wants memory for its entries alone
+  -- a change needs memory only for its entries
   abbrev pub wants_change : Wants → Reading B → Wants
   wants_change wants body = wants_both never numbers_taken (wants_counted (wants_entry wants body) (entry_taken body))

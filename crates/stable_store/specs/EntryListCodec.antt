@@ -1,4 +1,4 @@
--- Lists of entries are a codec where the bodies are. This lemma need not be believed.
+-- Lists of entries are a codec where the bodies are. This lemma need not be trusted.
 use Rattle.std.specs.Prelude.{ℕ, List}
 use Rattle.wire_bytes.specs.Fields.{Reading}
 use Rattle.wire_bytes.specs.Codecs.{IsCodec}

@@ -13,11 +13,11 @@ module _ {B : Type 0} where
   abbrev pub spelled_entries : (B → List ℕ) → List (Entry B) → List ℕ
   spelled_entries body = spelled_all (spelled_entry body)
 
-  -- so many entries behind so many bytes
+  -- this many entries after this many bytes
   abbrev pub entries_at : Reading B → ℕ → ℕ → Reading (List (Entry B))
   entries_at body count place = behind place (many count (entry_taken body))
 
-  -- why so many entries were not read: what is wrong with them, or memory, where they may want it
+  -- why this many entries were not read: what is wrong with them, or memory, where they may need it
   pub record IsRefusal (wants : Wants) (body : Reading B) (count place : ℕ) (input : List ℕ) (e : WireFault) : Type 0 where
     pub fault : e ≢ Memory → entries_at body count place input ≡ Err e
     pub memory : e ≡ Memory → IsTrue (wants_many count (wants_entry wants body) (entry_taken body) (drop place input))

@@ -1,4 +1,4 @@
--- Lists are a codec where their items are. These lemmas need not be believed.
+-- Lists are a codec where their items are. These lemmas need not be trusted.
 use Rattle.std.proofs.Common.{◌≡◌, ℕ, zero, suc, ◌^◌, ◌≤◌, List, [], ◌∷◌, ◌++◌, length, refl, ap, arith}
 use Rattle.std.specs.Int.{w16, to_be_bytes}
 use Rattle.wire_bytes.specs.Fields.{Reading, number_to, both}
@@ -7,7 +7,7 @@ use Rattle.wire_bytes.specs.FieldCodecs.{number-codec, wide16}
 use Rattle.raft_log.specs.Batches.{batch_limit}
 use Rattle.stable_store.specs.Lists.{AllFit, spelled_all, joined_pair, many, counted, spelled_counted, FitsCounted}
 
--- The same codec, its limits in other words.
+-- The same codec, with its limits in other words.
 refit : {X : Type 0} (spelled : X → List ℕ) (fits other : X → Type 0) (taken : Reading X) → IsCodec spelled fits taken → ((v : X) → fits v → other v) → ((v : X) → other v → fits v) → IsCodec spelled other taken
 refit spelled fits other taken codec to from = record {
   read_back = λ v rest h. codec.read_back v rest (from v h);

@@ -1,4 +1,4 @@
--- What stands in a store, what may stand there after an error, and what may be done to it.
+-- What a store holds, what it may hold after an error, and how it may be changed.
 use Rattle.std.specs.Prelude.{◌≡◌, ℕ, ◌+◌, ◌<◌, ◌≤◌, ◌⊎◌, Bool, false, IsTrue, [], ◌++◌, length, take, Option, None, Some, Result, OnOk}
 use Rattle.raft_log.specs.Lists.{IsNode}
 use Rattle.raft_log.specs.Logs.{entry_limit}
@@ -17,11 +17,12 @@ module _ {B : Type 0} where
   abbrev pub nothing_saved : Saved B
   nothing_saved = record { boot = 0; term = 0; vote = None; log = [] }
 
-  -- what stands after a change
+  -- what a store holds after a change
   abbrev pub changed : Saved B → ChangeParts B → Saved B
   changed s c = record { boot = c.boot; term = c.term; vote = c.vote; log = take c.keep s.log ++ c.entries }
 
-  -- no more entries are kept than stand, the log stays within its limit, boot and term do not sink, and a vote is for a node
+  -- no more entries are kept than there are, the log stays within its limit, boot and term do not decrease, and a vote
+  -- is for a node
   pub record MayFollow (s : Saved B) (c : ChangeParts B) : Type 0 where
     pub kept : c.keep ≤ length s.log
     pub room : c.keep + length c.entries ≤ entry_limit
@@ -29,49 +30,50 @@ module _ {B : Type 0} where
     pub term : s.term ≤ c.term
     pub vote : NamesNode c.vote
 
-  -- a change was done to something of which this holds, and which it may follow
+  -- a change was made to a state for which this holds, and which it may follow
   pub record IsDone (stood : Saved B → Type 0) (c : ChangeParts B) (now : Saved B) : Type 0 where
     pub before : Saved B
     pub stands : stood before
     pub follows : MayFollow before c
     pub is : now ≡ changed before c
 
-  -- what may stand after a save may have stood before it, or is the change done to that
+  -- a state that a store may hold after a save is one that it may have held before, or one with the change made to it
   abbrev pub MayStandAfter : (Saved B → Type 0) → ChangeParts B → (Saved B → Type 0) → Type 0
   MayStandAfter old c new = (v : Saved B) → new v → old v ⊎ IsDone old c v
 
-  -- what may stand may have stood before
+  -- a state that a store may hold is one that it may have held before
   abbrev pub MayStandStill : (Saved B → Type 0) → (Saved B → Type 0) → Type 0
   MayStandStill old new = (v : Saved B) → new v → old v
 
-  -- what stood before a change, or the change
+  -- the state before a change, or after it
   abbrev pub IsEither : Saved B → ChangeParts B → Saved B → Type 0
   IsEither before c now = (now ≡ before) ⊎ (now ≡ changed before c)
 
--- Whether a store's device keeps what it is told, whether an error was met that nothing has mended, and how many calls of the
--- device failed.
+-- Whether a store's device keeps what is written to it, whether there was an error that nothing has mended, and how
+-- many calls of the device failed.
 pub record Condition : Type 0 where
   pub honest : Bool
   pub broken : Bool
   pub failures : ℕ
 
--- it keeps what it is told
+-- its device keeps what is written to it
 abbrev pub IsHonest : Condition → Type 0
 IsHonest c = IsTrue c.honest
 
--- an honest store without an error to be mended
+-- an honest store without an error to mend
 abbrev pub Serves : Condition → Type 0
 Serves c = IsHonest c × (c.broken ≡ false)
 
--- a count that stands at the greatest u64 stays there, and is taken as risen
+-- the count has risen; a count at the greatest u64 stays there, and counts as risen
 abbrev pub HasRisen : ℕ → ℕ → Type 0
 HasRisen old new = (old < new) ⊎ (old ≡ 18446744073709551615)
 
--- an honest store lacks memory, and no call of its device failed; or its device failed in this call or before it, unmended
+-- an honest store ran out of memory, and no call of its device failed; or its device failed, in this call or before it,
+-- and that was not mended
 abbrev pub IsAllowed : Condition → Condition → StoreFault → Type 0
 IsAllowed old new fault = IsHonest old → ((fault ≡ Memory) × (new.failures ≡ old.failures)) ⊎ ((fault ≡ Device) × (HasRisen old.failures new.failures ⊎ IsTrue old.broken))
 
--- a call leaves honesty as it is, counts failures up, and where it answers Ok none came and all is mended
+-- a call does not change honesty, and failures only count up; if it returns Ok, none came and all is mended
 pub record MayBecome {A E : Type 0} (result : Result A E) (old new : Condition) : Type 0 where
   pub honest : new.honest ≡ old.honest
   pub counts : old.failures ≤ new.failures

@@ -11,8 +11,8 @@ use wire_bytes::{Copied, Number, Wire, WireFault, undo};
 /// What is saved at once: boot, term and vote, how many entries are kept, and those that follow
 /// them, at most [`raft_log::BATCH_LIMIT`].
 ///
-/// A vote is for a node from 1 on, past 7 too, since that is what a change's bytes may say; only
-/// one for a node of a group may follow what stands in a store.
+/// A vote is for a node from 1 on, also past 7, since the bytes of a change may say so; only a vote
+/// for a node of a group may follow what a store holds.
 #[derive(Drop)]
 pub struct Change<B: Wire> {
     boot: Number,
@@ -96,7 +96,7 @@ impl<B: Wire> Change<B> {
         self.entries.as_slice()
     }
 
-    /// Gives the entries that follow back, unchanged.
+    /// Returns the entries that follow, unchanged.
     pub fn into_entries(self) -> Vec<Entry<B>>
         ensures { result.items ≡ self.entries }
     {

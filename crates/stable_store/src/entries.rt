@@ -123,7 +123,7 @@ fn put_all<B: Wire>(out: &mut Vec<u8>, entries: &[Entry<B>]) -> Result<(), Alloc
     Ok(())
 }
 
-/// Reads so many entries from a place of the input on. Places and the end are counted from the
+/// Reads this many entries from a place of the input on. Places and the end are counted from the
 /// input's front.
 fn take_many<B: Wire>(
     alloc: Global,

@@ -1,6 +1,5 @@
-//! What a node keeps over a restart, and the laws of a store that keeps it.
-//! Stands under raft_node and journal_store.
-//! After Ok a change stands; after an error what stood before may stand, or the change, until `again` or a save answers
+//! What a node keeps over a restart, and the laws of a store that keeps it. Used by raft_node and journal_store. After
+//! Ok the store holds a change; after an error it may hold its old state or the change, until `again` or a save returns
 //! Ok, which settles on one of them.
 #![tactic(auto)]
 

@@ -9,7 +9,7 @@ use raft_log::{Log, NodeId};
 use std::alloc::Global;
 use wire_bytes::{Copied, Number, Wire};
 
-/// A store in memory, which stands as long as the program does.
+/// A store in memory, which lives as long as the program does.
 #[derive(Drop)]
 pub struct MemoryStore<B: Wire> {
     alloc: Global,
@@ -30,7 +30,7 @@ impl<B: Wire> MemoryStore<B> {
         MemoryStore { alloc, saved }
     }
 
-    /// A store in which this stands.
+    /// A store with this state.
     pub fn holding(alloc: Global, saved: Saved<B>) -> Self
         ensures { ⟦<MemoryStore<B> as Stable<B>>⟧.saved result ≡ saved }
     {
@@ -38,7 +38,7 @@ impl<B: Wire> MemoryStore<B> {
     }
 }
 
-/// It never fails but for want of memory, and then nothing changes.
+/// It fails only if memory runs out, and then nothing changes.
 impl<B: Wire> Stable<B> for MemoryStore<B> {
     ghost use Rattle.std.specs.Prelude.{◌≡◌, false, true};
 
@@ -63,7 +63,7 @@ impl<B: Wire> Stable<B> for MemoryStore<B> {
         Ok(())
     }
 
-    /// Does nothing, and answers Ok.
+    /// Does nothing, and returns Ok.
     fn again(&mut self) -> Result<(), StoreFault>
         ensures ok { IsOk result }
         ensures same { self.new ≡ self.old }

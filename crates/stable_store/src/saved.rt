@@ -2,7 +2,7 @@ use raft_log::{Log, NodeId};
 use std::alloc::{AllocError, Global};
 use wire_bytes::{Copied, Number, Wire};
 
-/// What stands in a store: a node's runs so far, its term, its vote in that term, and its log.
+/// What a store holds: a node's runs so far, its term, its vote in that term, and its log.
 #[derive(Drop)]
 pub struct Saved<B: Wire> {
     pub boot: Number,

@@ -11,27 +11,28 @@ use wire_bytes::Wire;
 
 /// A store for what a node keeps over a restart.
 ///
-/// Its laws hold where its device is honest. A `save` that answers an error may have been done or not,
-/// and nobody knows which until `again` or a `save` answers Ok: until then more than one state may
-/// stand, and it may answer `Device`.
+/// Its laws hold if its device is honest. A `save` that returns an error may have been done or not, and nobody knows
+/// which until `again` or a `save` returns Ok: until then the store may hold more than one state, and it may return
+/// `Device`.
 pub trait Stable<B: Wire>: Drop {
-    /// What stands, as far as the store knows: the changes that were saved, one after the other.
+    /// What the store holds, as far as it knows: the changes that were saved, one after the other.
     ghost saved: { Self → Saved B };
 
-    /// What may stand, were the device read anew.
+    /// What the store may hold, if its device were read again.
     ghost may_stand: { Self → Saved B → Type 0 };
 
-    /// Whether its device is honest, which no call changes; whether an error was met that nothing has
-    /// mended; and how many calls of the device failed, a count that stays at the greatest u64.
+    /// Whether its device is honest, which no call changes; whether there was an error that nothing has mended; and how
+    /// many calls of the device failed, a count that stays at the greatest u64.
     ghost condition: { Self → Condition };
 
-    /// What stands.
+    /// What the store holds.
     fn read(&self) -> Result<Saved<B>, StoreFault>
         ensures ok { IsHonest (condition self.now) → IfOk result (λ s. s ≡ saved self.now) }
         ensures sure { IsHonest (condition self.now) → OnOk result (Serves (condition self.now)) }
         ensures fault { IfErr result (IsAllowed (condition self.now) (condition self.now)) };
 
-    /// Saves a change. After Ok it stands; after an error what may have stood may stand, or the change.
+    /// Saves a change. After Ok the store holds it; after an error the store may hold what it may have held before, or
+    /// the change.
     fn save(&mut self, change: &Change<B>) -> Result<(), StoreFault>
         requires { Serves (condition self.old) → MayFollow (saved self.old) change.now }
         ensures ok { IsHonest (condition self.old)
@@ -43,8 +44,8 @@ pub trait Stable<B: Wire>: Drop {
         ensures fault { IfErr result (IsAllowed (condition self.old) (condition self.new)) }
         ensures condition { MayBecome result (condition self.old) (condition self.new) };
 
-    /// Serves again after an error, by what the device holds. After Ok one of those that may have stood
-    /// is known to stand; after an error all of them may stand still.
+    /// Makes the store usable again after an error, from what the device holds. After Ok it is known which of the
+    /// possible states it holds; after an error all of them are still possible.
     fn again(&mut self) -> Result<(), StoreFault>
         ensures ok { IsHonest (condition self.old)
             → OnOk result (may_stand self.old (saved self.new)) }
@@ -59,7 +60,7 @@ pub trait Stable<B: Wire>: Drop {
     fn failures(&self) -> u64
         ensures { result ≡ (condition self.now).failures };
 
-    /// Where nothing is to be mended, what stands is known.
+    /// If nothing is to be mended, it is known what the store holds.
     ghost sure: { (s : Self) (v : Saved B) → Serves (condition s)
         → may_stand s v ↔ (v ≡ saved s) };
 }

@@ -5,7 +5,7 @@ ghost use Rattle.stable_store.specs.Faults.{fault_number};
 use std::alloc::AllocError;
 use thiserror::Error;
 
-/// Why a store does not serve.
+/// Why a store can't be used.
 #[derive(Clone, Copy, Debug, Drop, PartialEq, Eq, Error)]
 pub enum StoreFault {
     #[error("the device failed")]
@@ -14,7 +14,7 @@ pub enum StoreFault {
     NotAStore,
     #[error("the store is of another version")]
     Version,
-    /// The record at this place, from 0, is none.
+    /// There is no valid record at this place, from 0.
     #[error("the store is damaged at byte {0}")]
     Damaged(u64),
     #[error("out of memory")]

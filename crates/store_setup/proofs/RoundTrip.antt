@@ -23,7 +23,7 @@ use Rattle.store_setup.proofs.Digests.{sha256_len}
 -- ---- what is spelled is read
 
 module _ {X : Type 0} (make : X → StoreSetup) where
-  -- all fields are read where no byte is left
+  -- all fields are read if no byte is left
   whole_read : (f : X) (len n : ℕ) → len ≤ n → whole make len (Ok (f, n)) ≡ Ok (make f)
   whole_read f len n h = ap (λ (b : Bool). cond b (Err Damaged) (Ok (make f))) (le-ltb n len h)
 
@@ -76,7 +76,7 @@ answer s = Ok s
 abbrev refused : SetupFileFault → Result StoreSetup SetupFileFault
 refused e = Err e
 
--- an answer is that of the first of two branches where the second is a fault
+-- a result comes from the first of two branches if the second is a fault
 first_of : (b : Bool) (r : Result StoreSetup SetupFileFault) (e : SetupFileFault) (s : StoreSetup) → cond b r (refused e) ≡ answer s → (b ≡ true) × (r ≡ answer s)
 first_of true r e s h = (refl, h)
 first_of false r e s h = absurd cc
@@ -92,7 +92,7 @@ never_both false d e s h = absurd cc
 store_is : (s t : StoreSetup) → answer s ≡ answer t → s ≡ t
 store_is s t h = cc
 
--- the fields that were read, which spell what they were read from
+-- the fields that were read, whose spelling is what they were read from
 record AreRead {X : Type 0} (make : X → StoreSetup) (spelled : X → List ℕ) (fits : X → Type 0) (fields : List ℕ) (s : StoreSetup) : Type 0 where
   read : X
   fit : fits read
@@ -110,7 +110,7 @@ module _ {X : Type 0} (make : X → StoreSetup) where
       let all : take r.1 fields ≡ fields = take_all r.1 fields (ltb-false _ _ inner.0) in
       record { read = r.0; fit = one.0; same = store_is (make r.0) s inner.1; spell = sym all ∙ one.1 }
 
--- what is spelled by a form is the store's, and the store is one that may be
+-- bytes that a form spells are those of the store, and the store is an allowed one
 abbrev IsSpelled : Form → List ℕ → StoreSetup → Type 0
 IsSpelled form fields s = FitsStore s × (sealed form fields ≡ spelling s)
 
@@ -140,7 +140,7 @@ one_judged form rest s bytes h =
     let split : rest ≡ fields ++ digest_of form fields = sym (take-append-drop n rest) ∙ ap (λ (d : List ℕ). fields ++ d) digest in
     (one.0, ap (λ (t : List ℕ). header_of form ++ t) split ∙ one.1)
 
--- a header of a form, where the file is read
+-- a header of a form, if the file is read
 one_headed_by : (named nameless old : Bool) (header rest : List ℕ) (s : StoreSetup) → AreBytes rest
     → (named ≡ true → header ≡ header_of Named) → (nameless ≡ true → header ≡ header_of Nameless)
     → cond named (judged Named rest) (cond nameless (judged Nameless rest) (cond old (refused Version) (refused NotASetup))) ≡ answer s
@@ -156,6 +156,6 @@ one_spelling bytes s fit h =
     let one = one_headed_by (same_bytes header (header_of Named)) (same_bytes header (header_of Nameless)) (same_bytes (take 6 header) mark) header (drop 8 bytes) s (AreBytes-drop 8 bytes fit) (same_bytes-eq header (header_of Named)) (same_bytes-eq header (header_of Nameless)) some.1 in
     (one.0, sym (take-append-drop 8 bytes) ∙ one.1)
 
--- the same of an answer
+-- the same for a result
 pub answered : (bytes : List ℕ) (r : Result StoreSetup SetupFileFault) → AreBytes bytes → IfOk r (λ s. stored bytes ≡ Ok s) → IfOk r (λ s. bytes ≡ spelling s)
 answered bytes r fit h = IfOk-weaker r _ _ (λ s is. (one_spelling bytes s fit is).1) h

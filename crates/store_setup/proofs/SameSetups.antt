@@ -1,4 +1,4 @@
--- No key differs exactly where a store is of a setup and of so many nodes.
+-- No key differs exactly if a store has a setup and this many nodes.
 use Rattle.std.proofs.Common.{◌≡◌, ℕ, Bool, true, false, not, ◌==◌, ◌&&◌, List, [], ◌∷◌, refl, ap, subst, ◌∙◌, arith}
 use Rattle.std.specs.Prelude.{filter, cond}
 use Rattle.irc_line.specs.Names.{same_bytes}
@@ -99,7 +99,7 @@ same_settings a b n c cs qs mq cc cq mc o =
     ∙ (ap (λ (x : Bool). made b.nick b.channels b.channel_size b.query_size b.most_queries b.clears_channels b.clears_queries x a.offset) mc
     ∙ ap (λ (x : ℕ). made b.nick b.channels b.channel_size b.query_size b.most_queries b.clears_channels b.clears_queries b.many_clients x) o)))))))
 
--- where no key differs, the store is of the setup and of so many nodes
+-- if no key differs, the store has the setup and this many nodes
 pub none_differs : (store : StoreSetup) (s : Settings) (nodes : ℕ) → changed_keys store s nodes ≡ [] → IsOf store s nodes
 none_differs store s nodes h =
     let n = none_of (differs store s nodes) compared h in (
@@ -150,7 +150,7 @@ none_of_itself store =
       ),
     )
 
--- and the other way round
+-- and conversely
 pub none_differs_where_same : (store : StoreSetup) (s : Settings) (nodes : ℕ) → IsOf store s nodes → changed_keys store s nodes ≡ []
 none_differs_where_same store s nodes h =
     subst (λ (t : Settings). changed_keys store t nodes ≡ []) h.0 (subst (λ (n : ℕ). changed_keys store store.setup n ≡ []) h.1 (none_of_itself store))

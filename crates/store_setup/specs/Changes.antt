@@ -6,7 +6,7 @@ use Rattle.bouncer_config.specs.declared.key.Key.{Key}
 use Rattle.bouncer_config.specs.declared.key.Key.TheVariants as key
 use Rattle.store_setup.specs.declared.store_setup.StoreSetup.{StoreSetup}
 
--- the store is of this setup and of so many nodes
+-- the store has this setup and this many nodes
 abbrev pub IsOf : StoreSetup → Settings → ℕ → Type 0
 IsOf store s nodes = (store.setup ≡ s) × (store.nodes ≡ nodes)
 
@@ -17,11 +17,11 @@ same_names [] (n ∷ ns) = false
 same_names (m ∷ ms) [] = false
 same_names (m ∷ ms) (n ∷ ns) = same_bytes m n && same_names ms ns
 
--- two truth values are not the same
+-- two truth values differ
 abbrev pub is_other : Bool → Bool → Bool
 is_other a b = if a then not b else b
 
--- whether the value of a key differs between a store and a configuration of this setup and so many nodes
+-- whether the value of a key differs between a store and a configuration of this setup and this many nodes
 abbrev pub differs : StoreSetup → Settings → ℕ → Key → Bool
 differs store s nodes key.Nick = not (same_bytes store.setup.nick s.nick)
 differs store s nodes key.Listen = not (store.nodes == nodes)
@@ -35,7 +35,7 @@ differs store s nodes key.AutoClearQueryBuffer = is_other store.setup.clears_que
 differs store s nodes key.MultiClients = is_other store.setup.many_clients s.many_clients
 differs store s nodes _ = false
 
--- the keys that say under what a log comes about, in the order of keys
+-- the keys that determine what a log leads to, in the order of keys
 abbrev pub compared : List Key
 compared =
     key.Nick ∷ key.Listen ∷ key.Channels ∷ key.ChanBufferSize ∷ key.QueryBufferSize ∷ key.MaxQueryBuffers

@@ -1,4 +1,4 @@
--- The fields of a store's setup are a codec. These lemmas need not be believed.
+-- The fields of a store's setup are a codec. These lemmas need not be trusted.
 use Rattle.std.proofs.Common.{ℕ, ◌≤◌, List, [], ◌∷◌, ◌++◌, IsTrue, inl, inr, refl, arith}
 use Rattle.std.proofs.lemmas.Bool.Decides.{nat_tests}
 use Rattle.wire_bytes.specs.Fields.{both, byte_within, only}
@@ -11,7 +11,7 @@ use Rattle.setup_spelling.specs.Spelling.{FitsSetup, setup_taken, spelled_setup}
 use Rattle.setup_spelling.specs.SetupCodec.{setup_is_codec}
 use Rattle.store_setup.specs.Files.{Fields, NamedFields, fields_taken, is_group_size, named_fields_taken, nodes_taken, spelled_fields, spelled_named_fields}
 
--- the limits of a byte that passes the test of a group's size
+-- the limits of a byte that passes the test for a group's size
 abbrev IsTested : ℕ → Type 0
 IsTested n = ((3 ≤ n) × (n ≤ 7)) × IsTrue (is_group_size n)
 
@@ -35,14 +35,14 @@ nodes_is_codec = record {
   no_memory = λ input bytes e. tested_codec.no_memory input bytes e;
 }
 
--- what the fields of every store's setup keep, without a name and with one
+-- the limits of the fields of every store's setup, without a name and with one
 abbrev pub FitFields : Fields → Type 0
 FitFields f = (IsGroupSize f.0.0 × FitsNumber f.0.1) × FitsSetup f.1
 
 abbrev pub FitNamedFields : NamedFields → Type 0
 FitNamedFields f = ((IsGroupSize f.0.0.0 × FitsNumber f.0.0.1) × FitsNumber f.0.1) × FitsSetup f.1
 
--- the nodes and how often the log was begun anew
+-- the nodes and how often the log was renewed
 abbrev spelled_counts : (ℕ × ℕ) → List ℕ
 spelled_counts c = c.0 ∷ [] ++ spelled_number c.1
 

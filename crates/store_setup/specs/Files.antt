@@ -14,12 +14,12 @@ use Rattle.store_setup.specs.declared.fault.SetupFileFault.TheVariants.{NotASetu
 use Rattle.store_setup.specs.declared.file.Form.{Form}
 use Rattle.store_setup.specs.declared.file.Form.TheVariants.{Nameless, Named}
 
--- what a store's name keeps, if it has one
+-- the limit of a store's name, if it has one
 abbrev pub FitsName : Option ℕ → Type 0
 FitsName None = Unit {0}
 FitsName (Some name) = FitsNumber name
 
--- what every store's setup keeps
+-- the limits of every store's setup
 abbrev pub FitsStore : StoreSetup → Type 0
 FitsStore s = ((IsGroupSize s.nodes × FitsNumber s.renewals) × FitsName s.name) × FitsSetup s.setup
 
@@ -27,19 +27,19 @@ FitsStore s = ((IsGroupSize s.nodes × FitsNumber s.renewals) × FitsName s.name
 abbrev pub mark : List ℕ
 mark = codes "RBSETU"
 
--- the older form is that of a store without a name
+-- the older form is for a store without a name
 abbrev pub header_of : Form → List ℕ
 header_of Nameless = codes "RBSETU01"
 header_of Named = codes "RBSETU02"
 
--- Behind it stand the number of nodes in one byte, how often the log was begun anew in eight, the name in eight, if
--- there is one, and the setup
+-- The header is followed by the number of nodes in one byte, how often the log was renewed in eight, the name in eight,
+-- if there is one, and the setup
 
 -- a number of nodes that a group may have
 abbrev pub is_group_size : ℕ → Bool
 is_group_size n = n == 3 || (n == 5 || n == 7)
 
--- the same in one byte
+-- the number in one byte
 unfoldable pub nodes_taken : Reading ℕ
 nodes_taken = only is_group_size (byte_within 3 7)
 
@@ -64,16 +64,16 @@ spelled_fields f = (f.0.0 ∷ [] ++ spelled_number f.0.1) ++ spelled_setup f.1
 abbrev pub spelled_named_fields : NamedFields → List ℕ
 spelled_named_fields f = ((f.0.0.0 ∷ [] ++ spelled_number f.0.0.1) ++ spelled_number f.0.1) ++ spelled_setup f.1
 
--- the setup of a store that has these fields
+-- the setup of a store with these fields
 abbrev pub store_of : Fields → StoreSetup
 store_of f = record { nodes = f.0.0; renewals = f.0.1; name = None; setup = f.1 }
 
 abbrev pub named_store_of : NamedFields → StoreSetup
 named_store_of f = record { nodes = f.0.0.0; renewals = f.0.0.1; name = Some f.0.1; setup = f.1 }
 
--- Behind them stands the SHA-256 digest of all before
+-- They are followed by the SHA-256 digest of all before
 
--- the digest that stands behind these fields
+-- the digest that follows these fields
 abbrev pub digest_of : Form → List ℕ → List ℕ
 digest_of form fields = sha256 (header_of form ++ fields)
 
@@ -91,7 +91,7 @@ spelling s = spelling_by s.name s
 
 -- Reading
 
--- the setup of the fields that were read of so many bytes, which are to be all of them
+-- the setup of the fields that were read from this many bytes, which must be all of them
 abbrev pub whole : {X : Type 0} → (X → StoreSetup) → ℕ → Result (X × ℕ) WireFault → Result StoreSetup SetupFileFault
 whole make len (Ok r) = if nat_lt r.1 len then Err Damaged else Ok (make r.0)
 whole make len (Err e) = Err Damaged
@@ -101,25 +101,25 @@ abbrev pub fields_read : Form → List ℕ → Result StoreSetup SetupFileFault
 fields_read Nameless fields = whole store_of (length fields) (fields_taken fields)
 fields_read Named fields = whole named_store_of (length fields) (named_fields_taken fields)
 
--- the same where this digest is theirs
+-- the same, if this is their digest
 abbrev pub checked : Form → List ℕ → List ℕ → Result StoreSetup SetupFileFault
 checked form fields digest = if same_bytes digest (digest_of form fields) then fields_read form fields else Err Damaged
 
--- the setup that stands behind the header: the last 32 bytes are the digest
+-- the setup that follows the header: the last 32 bytes are the digest
 abbrev pub judged : Form → List ℕ → Result StoreSetup SetupFileFault
 judged form rest = checked form (take (length rest - 32) rest) (drop (length rest - 32) rest)
 
--- the setup behind a header of no form that there is
+-- the setup after an unknown header
 abbrev pub unknown : List ℕ → Result StoreSetup SetupFileFault
 unknown header = if same_bytes (take 6 header) mark then Err Version else Err NotASetup
 
--- the setup behind this header
+-- the setup after this header
 abbrev pub headed : List ℕ → List ℕ → Result StoreSetup SetupFileFault
 headed header rest =
     if same_bytes header (header_of Named)
     then judged Named rest
     else (if same_bytes header (header_of Nameless) then judged Nameless rest else unknown header)
 
--- the setup that a file tells, or why it tells none
+-- the setup in a file, or why there is none
 abbrev pub stored : List ℕ → Result StoreSetup SetupFileFault
 stored bytes = if nat_lt (length bytes) 8 then Err NotASetup else headed (take 8 bytes) (drop 8 bytes)

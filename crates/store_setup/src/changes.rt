@@ -9,7 +9,7 @@ use irc_line::{Name, is_same};
 use raft_log::GroupSize;
 use std::alloc::{AllocError, Global};
 
-/// The keys of a configuration that say under what a log comes about, in the order of keys.
+/// The keys of a configuration that determine what a log leads to, in the order of keys.
 const COMPARED: [Key; 10] = [
     Key::Nick,
     Key::Listen,
@@ -23,8 +23,8 @@ const COMPARED: [Key; 10] = [
     Key::MultiClients,
 ];
 
-/// The keys whose values differ between a store and a configuration that has this setup and so many nodes, in the
-/// order of keys. None does where a log goes on.
+/// The keys whose values differ between a store and a configuration that has this setup and this many nodes, in the
+/// order of keys. If there are none, the log can go on.
 pub fn changed(
     alloc: Global,
     store: &StoreSetup,
@@ -37,7 +37,7 @@ pub fn changed(
     changed_of(alloc, store, setup, nodes, &COMPARED)
 }
 
-/// Those of these keys whose values differ.
+/// The ones among these keys whose values differ.
 fn changed_of(
     alloc: Global,
     store: &StoreSetup,

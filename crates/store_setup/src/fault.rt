@@ -1,11 +1,11 @@
-//! Why a file tells no setup.
+//! Why a file has no setup.
 ghost use Rattle.std.specs.Prelude.{◌≡◌};
 ghost use Rattle.store_setup.specs.declared.fault.SetupFileFault.TheVariants.{Memory};
 
 use std::alloc::AllocError;
 use thiserror::Error;
 
-/// Why a file tells no setup of a store, and what to do.
+/// Why a file has no setup of a store, and what to do.
 #[derive(Clone, Copy, Debug, Drop, PartialEq, Eq, Error)]
 pub enum SetupFileFault {
     #[error("this is no setup of a store: move it away, and start with the configuration that the store was used with last")]

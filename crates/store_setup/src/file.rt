@@ -22,7 +22,7 @@ const MARK: [u8; 6] = *b"RBSETU";
 /// How many bytes a SHA-256 digest has.
 const DIGEST_LEN: usize = 32;
 
-/// The forms that the file has. The older one has no name of the store.
+/// The forms of the file. The older one has no name of the store.
 #[derive(Clone, Copy)]
 enum Form {
     Nameless,
@@ -30,7 +30,7 @@ enum Form {
 }
 
 impl Form {
-    /// What the file begins with: whose it is, and the version of its form.
+    /// What the file begins with: the mark, and the version of its form.
     fn header(self) -> [u8; HEADER_LEN]
         ensures { result ≡ header_of self }
     {
@@ -41,7 +41,7 @@ impl Form {
     }
 }
 
-/// The spelling of a store's setup: a header, the number of nodes, how often the log was begun anew, the name of the
+/// The spelling of a store's setup: a header, the number of nodes, how often the log was renewed, the name of the
 /// store, if it has one, the setup, and the SHA-256 digest of all before.
 pub fn spell(alloc: Global, store: &StoreSetup) -> Result<Vec<u8>, AllocError>
     ensures spelling { IfOk result (λ v. v.items ≡ spelling store.now) }
@@ -57,6 +57,7 @@ pub fn spell(alloc: Global, store: &StoreSetup) -> Result<Vec<u8>, AllocError>
         put_number(&mut bytes, name)?;
     }
     put_setup(&mut bytes, &store.setup)?;
+    // without it a flipped bit would show a setup that the log never had
     let digest = Sha256::digest(bytes.as_slice());
     bytes.extend_from_slice(&digest)?;
     Ok(bytes)
@@ -78,7 +79,7 @@ pub fn read(alloc: Global, bytes: &[u8]) -> Result<StoreSetup, SetupFileFault>
     headed(alloc, bytes)
 }
 
-/// The setup that these bytes spell, whose header is judged first.
+/// The setup that these bytes spell, whose header is checked first.
 fn headed(alloc: Global, bytes: &[u8]) -> Result<StoreSetup, SetupFileFault>
     ensures ok { IfOk result (λ s. stored bytes.now ≡ Ok s) }
     ensures err { IfErr result (λ e. e ≢ SetupFileFault.Memory → stored bytes.now ≡ Err e) }
@@ -90,7 +91,7 @@ fn headed(alloc: Global, bytes: &[u8]) -> Result<StoreSetup, SetupFileFault>
     behind(alloc, header, rest)
 }
 
-/// The setup that stands behind this header.
+/// The setup that follows this header.
 fn behind(alloc: Global, header: &[u8], rest: &[u8]) -> Result<StoreSetup, SetupFileFault>
     ensures ok { IfOk result (λ s. headed header.now rest.now ≡ Ok s) }
     ensures err { IfErr result (λ e. e ≢ SetupFileFault.Memory
@@ -105,7 +106,7 @@ fn behind(alloc: Global, header: &[u8], rest: &[u8]) -> Result<StoreSetup, Setup
     }
 }
 
-/// Why there is no setup behind a header of no form that there is.
+/// Why there is no setup after an unknown header.
 fn fault_of(header: &[u8]) -> SetupFileFault
     ensures { unknown header.now ≡ Err result }
 {
@@ -117,7 +118,7 @@ fn fault_of(header: &[u8]) -> SetupFileFault
     }
 }
 
-/// The setup that the bytes behind the header spell, where their digest is right.
+/// The setup that the bytes after the header spell, if their digest is right.
 fn judge(alloc: Global, form: Form, rest: &[u8]) -> Result<StoreSetup, SetupFileFault>
     ensures ok { IfOk result (λ s. judged form rest.now ≡ Ok s) }
     ensures err { IfErr result (λ e. e ≢ SetupFileFault.Memory → judged form rest.now ≡ Err e) }
@@ -130,7 +131,7 @@ fn judge(alloc: Global, form: Form, rest: &[u8]) -> Result<StoreSetup, SetupFile
     }
 }
 
-/// The digest that stands behind these fields.
+/// The digest that follows these fields.
 fn digest_of(form: Form, fields: &[u8]) -> [u8; DIGEST_LEN]
     ensures { result ≡ digest_of form fields.now }
 {
@@ -152,7 +153,7 @@ fn read_fields(alloc: Global, form: Form, fields: &[u8]) -> Result<StoreSetup, S
     }
 }
 
-/// The same of a store without a name.
+/// The same for a store without a name.
 fn read_nameless(alloc: Global, fields: &[u8]) -> Result<StoreSetup, SetupFileFault>
     ensures ok { IfOk result (λ s. fields_read Nameless fields.now ≡ Ok s) }
     ensures err { IfErr result (λ e. e ≢ SetupFileFault.Memory
@@ -171,7 +172,7 @@ fn read_nameless(alloc: Global, fields: &[u8]) -> Result<StoreSetup, SetupFileFa
     }
 }
 
-/// The same of a store with a name.
+/// The same for a store with a name.
 fn read_named(alloc: Global, fields: &[u8]) -> Result<StoreSetup, SetupFileFault>
     ensures ok { IfOk result (λ s. fields_read Named fields.now ≡ Ok s) }
     ensures err { IfErr result (λ e. e ≢ SetupFileFault.Memory

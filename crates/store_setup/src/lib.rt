@@ -1,7 +1,6 @@
-//! What a store says of itself: the number of nodes and the setup under which its log came about.
-//! Stands under journal_folder.
-//! Promises that a store's setup has one spelling, which is read back, and that no other bytes are read; and that the
-//! keys of a configuration that are told as changed are those whose values differ.
+//! What a store records about itself: the number of nodes and the setup of its log. Used by journal_folder. Promises
+//! that a store's setup has one spelling, which is read back, and that no other bytes are read; and that the keys of a
+//! configuration that are reported as changed are those whose values differ.
 #![tactic(auto)]
 
 mod changes;

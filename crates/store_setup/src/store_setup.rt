@@ -1,4 +1,4 @@
-//! What a store says of itself.
+//! What a store records about itself.
 ghost use Rattle.std.specs.Prelude.{◌≡◌, IfOk};
 
 use buffer_commands::Setup;
@@ -6,21 +6,22 @@ use raft_log::GroupSize;
 use std::alloc::{AllocError, Global};
 use wire_bytes::{Copied, Number};
 
-/// Under what the log of a store came about.
+/// The setup of the log of a store.
 #[derive(Drop)]
 pub struct StoreSetup {
     /// How many nodes the group has.
     pub nodes: GroupSize,
-    /// How often the log was begun anew.
+    /// How often the log was renewed.
     pub renewals: Number,
-    /// What tells it from every other store: when it was made, in microseconds since 1970. None where it was made by a
-    /// program that gave stores no names, until its log is begun anew.
+    /// What distinguishes it from every other store: when it was made, in microseconds since 1970. None if it was made
+    /// by a program that gave stores no names, until its log is renewed.
     pub name: Option<Number>,
     pub setup: Setup,
 }
 
 impl StoreSetup {
-    /// That of a store of so many nodes, whose log was begun anew so often, of this name, under a copy of this setup.
+    /// The setup of a store of this many nodes, whose log was renewed this often, with this name and a copy of this
+    /// setup.
     pub fn of(
         alloc: Global,
         nodes: GroupSize,

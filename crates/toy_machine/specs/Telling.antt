@@ -1,4 +1,4 @@
--- That the toy tells no mark. This is a lemma, which need not be believed.
+-- The toy recognizes no mark. This is a lemma, which need not be trusted.
 use Rattle.std.proofs.Common.{◌≡◌, ◌↔◌, ℕ, Option, Some, None, sym, ap, ◌∙◌}
 use Rattle.wire_bytes.specs.declared.mark.Mark.{Mark}
 use Rattle.machine_laws.specs.Marks.{IsBodyOf}
@@ -7,7 +7,7 @@ use Rattle.machine_laws.specs.Marks.{IsBodyOf}
 abbrev of_number : ℕ → Mark
 of_number n = record { node = 1; boot = 1; number = n }
 
--- where all marks have one body, it is of none alone
+-- where all marks have one body, that body belongs to no single mark
 pub constant_tells_none : {Body : Type 0} (body b : Body) (m : Mark) → (let none : Option Mark = None in none ≡ Some m) ↔ IsBodyOf (λ _. body) b m
 constant_tells_none body b m = (
   λ e. absurd (cc e),

@@ -1,4 +1,4 @@
-//! The toy tells no mark: all its marks have the same body.
+//! The toy recognizes no mark: all its marks have the same body.
 use crate::toy::Toy;
 use machine_laws::Marking;
 use wire_bytes::Mark;

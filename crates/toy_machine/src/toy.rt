@@ -6,8 +6,8 @@ use wire_bytes::{Mark, Moment, Number, Origin, SessionId};
 
 /// A body brings its own number about, and the last one is played.
 ///
-/// Bodies 7 and 8 are of the client 1 of nodes 1 and 2, and what they bring about goes to it; all
-/// others are the leader's, and go nowhere.
+/// Bodies 7 and 8 come from the client 1 of nodes 1 and 2, and their effects go to it; all others
+/// are the leader's, and their effects go nowhere.
 #[derive(Drop)]
 pub struct Toy {
     alloc: Global,

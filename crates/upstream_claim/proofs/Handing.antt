@@ -17,7 +17,7 @@ use Rattle.upstream_claim.proofs.Sound.{claims_once, none_not_some}
 use Rattle.irc_line.proofs.Numbers.{eq_of, le_of}
 use Rattle.irc_line.proofs.Booleans.{and_left, and_right}
 
--- what is numbered and what waits hands out nothing
+-- lines that are numbered or refused are not handed out
 no_hand : {E : Type 0} (r : ℕ) (e : E) (o : Option (Origin × Parts)) (b : Bool) (rest : List (ClaimsEffect E)) → nat_lt 0 r ≡ b → hands rest ≡ [] → hands (answer r e o ++ rest) ≡ []
 no_hand r e None b rest t h = h
 no_hand r e (Some p) true rest t h = rw t h
@@ -35,7 +35,7 @@ one_hand E claims id n (Some line) h = refl
 same_some : {A : Type 0} {x y : A} → Some x ≡ Some y → x ≡ y
 same_some e = cc
 
--- the line of a number that is numbered is there
+-- the list has a line for each number up to its length
 line_there : (xs : List Parts) (n : ℕ) → slice_get xs n ≡ None → length xs ≤ n
 line_there [] n e = omega arith
 line_there (x ∷ xs) zero e = absurd (none_not_some x (sym e))
@@ -52,7 +52,7 @@ module _ (E : Type 0) where
       one_hand E q.claimed id n (slice_get q.outgoing (n - 1)) there
   claims-taken now q id n false e = sym (append-nil q.claimed)
 
-  -- what is handed out is the line of its number
+  -- the line that is handed out is the line of its number
   handed-line : (out : List Parts) (id : SessionId) (m : ℕ) (o : Option Parts) → o ≡ slice_get out (m - 1) → (i n : ℕ) (other : SessionId) (line : Parts)
       → slice_get (hands {E = E} (handed id m o)) i ≡ Some ((n, other), line) → slice_get out (n - 1) ≡ Some line
   handed-line out id m None f i n other line e = absurd (none_not_some _ e)
@@ -97,7 +97,7 @@ module _ {C E : Type 0} (session : History C → Option SessionId) (sends : E �
   stay-after q below place (Inner c) = take_front q.outgoing (take (room q) (lines_of sends (effects below place c)))
   stay-after q below place (Claim id n) = stay-taken q id n (is_taken (session below) q id n)
 
-  -- the claims that a command adds are its hands
+  -- the claims that a command adds are those of the lines that it hands out
   pub hands_are_claims : (h : History (ClaimsCommand C)) (place : ℕ) (x : ClaimsCommand C) → claimed session sends effects ((place, x) ∷ h) ≡ claimed session sends effects h ++ map (λ k. k.0) (hands (answers session sends effects h place x))
   unfolding claimed answers numbered
   hands_are_claims h place x = claims-after (numbered session sends effects h) (plain h) place x
@@ -121,7 +121,7 @@ pub map_append : (xs ys : List Handed) → map (λ k. k.0) (xs ++ ys) ≡ map (�
 map_append [] ys = refl
 map_append (x ∷ xs) ys = ap (λ zs. x.0 ∷ zs) (map_append xs ys)
 
--- the claim of what was handed out
+-- the claim of the line that was handed out
 pub claim_at : (hs : List Handed) (i : ℕ) (claim : ℕ × SessionId) (line : Parts) → slice_get hs i ≡ Some (claim, line) → slice_get (map (λ k. k.0) hs) i ≡ Some claim
 claim_at [] i claim line e = absurd (none_not_some _ e)
 claim_at (h ∷ hs) zero claim line e =
@@ -130,7 +130,7 @@ claim_at (h ∷ hs) zero claim line e =
 claim_at (h ∷ hs) (suc i) claim line e = claim_at hs i claim line e
 
 module _ {C E : Type 0} (session : History C → Option SessionId) (sends : E → Option (Origin × Parts)) (effects : History C → ℕ → C → List E) where
-  -- all that is handed out is the claims that took effect
+  -- the lines that are handed out are those of the claims that took effect
   pub all_hands_are_claims : (h : History (ClaimsCommand C)) → map (λ k. k.0) (hands (all_effects (answers session sends effects) h)) ≡ claimed session sends effects h
   unfolding claimed numbered
   all_hands_are_claims [] = refl

@@ -1,4 +1,4 @@
--- What is kept of the lines for upstream follows what came.
+-- What is kept about the lines for upstream follows what came.
 use Rattle.std.proofs.Common.{◌≡◌, ℕ, zero, suc, ◌+◌, ◌-◌, ◌<◌, ◌≤◌, Bool, true, false, List, [], ◌∷◌, ◌++◌, length, take, drop, get_or, Option, Some, None, refl, ap, ◌∙◌, sym, arith, append_assoc, inl, inr}
 use Rattle.std.specs.Prelude.{◌⊎◌, ◌&&◌, ◌==◌, nat_lt, nat_le, if◌then◌else◌, is_some, slice_get, Result, Ok, Err, OnOk}
 use Rattle.std.proofs.lemmas.Bool.Decides.{nat_tests}
@@ -81,7 +81,7 @@ none_by : (ws : List Parts) {c o : ℕ} → slice_get ws 0 ≡ None → length w
 none_by [] e f = omega arith
 none_by (w ∷ ws) e f = absurd (none_not_some w (sym e))
 
--- the line that waits first is the one to be claimed next
+-- the first line that waits is the next to be claimed
 first-waits : (n : ℕ) (ws : List Parts) (q : Numbered) (l : Parts) → IsKept n ws q → slice_get ws 0 ≡ Some l → slice_get q.outgoing (length q.claimed) ≡ Some l
 first-waits n ws q l k e =
     let f : slice_get (drop (length q.claimed) q.outgoing) 0 ≡ Some l = ap (λ (xs : List Parts). slice_get xs 0) (sym k.waiting) ∙ e in
@@ -90,7 +90,7 @@ first-waits n ws q l k e =
     let g : l ≡ get_or q.outgoing (length q.claimed) l = sym (get_or_from_slice_get _ 0 l l f) ∙ (get_or-drop (length q.claimed) q.outgoing 0 l ∙ ap (λ m. get_or q.outgoing m l) (omega arith)) in
     slice_get_read q.outgoing (length q.outgoing) (length q.claimed) l refl (omega arith) g
 
--- where none waits, none is to be claimed
+-- where none waits, there is none to be claimed
 none-waits : (n : ℕ) (ws : List Parts) (q : Numbered) → IsKept n ws q → slice_get ws 0 ≡ None → length q.outgoing ≤ length q.claimed
 none-waits n ws q k e = none_by ws e (ap length k.waiting ∙ length-drop (length q.claimed) q.outgoing)
 
@@ -119,7 +119,7 @@ by_refused n ws q m k (inr e) = past (length q.claimed) (length q.outgoing) m (m
 pub found-none : (n : ℕ) (ws : List Parts) (q : Numbered) (m : ℕ) → IsKept n ws q → (if m == n + 1 then slice_get ws 0 else None) ≡ None → is_next q m ≡ false
 found-none n ws q m k e = by_refused n ws q m k (refused (m == n + 1) (slice_get ws 0) e)
 
--- the claim of the line that waits first leaves the others
+-- after the claim of the first line that waits, the others still wait
 pub claim-kept : (n : ℕ) (ws : List Parts) (q : Numbered) (id : SessionId) (m : ℕ) (l : Parts) → IsKept n ws q → (if m == n + 1 then slice_get ws 0 else None) ≡ Some l → IsKept (n + 1) (drop 1 ws) (with_claim q id m)
 claim-kept n ws q id m l k e =
     let c = chosen (m == n + 1) (slice_get ws 0) l e in
@@ -155,7 +155,7 @@ next_by n c o w false t e f =
     let q : nat_lt c o ≡ false = of_ge c o (omega arith) in
     rw (t, q) refl
 
--- the number of the line that is to be claimed next
+-- the number of the next line to be claimed
 pub next-kept : (n : ℕ) (ws : List Parts) (q : Numbered) → IsKept n ws q → (if nat_lt 0 (length ws) then Some (n + 1) else None) ≡ (if nat_lt (length q.claimed) (length q.outgoing) then Some (length q.claimed + 1) else None)
 next-kept n ws q k = next_by n (length q.claimed) (length q.outgoing) (length ws) (nat_lt 0 (length ws)) refl k.count (ap length k.waiting ∙ length-drop (length q.claimed) q.outgoing)
 

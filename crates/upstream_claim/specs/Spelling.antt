@@ -1,4 +1,4 @@
--- Commands as bytes: a kind byte, 0 for a command of the machine below and 1 for a claim, and what it has.
+-- Commands as bytes: a kind byte, 0 for a command of the machine below and 1 for a claim, followed by its fields.
 use Rattle.std.specs.Prelude.{ℕ, List, [], ◌∷◌, ◌++◌}
 use Rattle.wire_bytes.specs.Fields.{Reading, through, both, choice}
 use Rattle.wire_bytes.specs.Wants.{Wants, wants_choice}
@@ -7,7 +7,7 @@ use Rattle.wire_bytes.specs.declared.session_id.SessionId.{SessionId}
 use Rattle.upstream_claim.specs.declared.command.ClaimsCommand.{ClaimsCommand}
 use Rattle.upstream_claim.specs.declared.command.ClaimsCommand.TheVariants.{Inner, Claim}
 
--- which inputs may want memory: a command below does, a claim does not
+-- which inputs may need memory: a command of the machine below may, a claim does not
 abbrev pub command_wants : Wants → Wants
 command_wants command = wants_choice ((0, command) ∷ [])
 
@@ -31,11 +31,11 @@ module _ {C : Type 0} where
   FitsCommand command (Inner c) = command c
   FitsCommand command (Claim id n) = FitsSession id × FitsNumber n
 
-  -- a command below, behind the kind byte
+  -- a command below, after the kind byte
   abbrev pub inner_taken : Reading C → Reading (ClaimsCommand C)
   inner_taken command = through Inner command
 
-  -- a claim, by its parts as they are read
+  -- a claim, from its parts as they are read
   abbrev pub claim_of : SessionId × ℕ → ClaimsCommand C
   claim_of p = Claim p.0 p.1
 

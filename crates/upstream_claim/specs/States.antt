@@ -1,4 +1,5 @@
--- What is kept of the lines for upstream, and what it stands for. These are the machine's inner steps, which need not be believed.
+-- What is kept about the lines for upstream, and what it means. These are the machine's inner steps, which need not be
+-- trusted.
 use Rattle.std.specs.Prelude.{◌≡◌, ℕ, ◌-◌, ◌≤◌, if◌then◌else◌, List, [], length, drop, slice_get}
 use Rattle.irc_line.specs.Lines.{Parts}
 use Rattle.wire_bytes.specs.declared.session_id.SessionId.{SessionId}
@@ -9,16 +10,16 @@ use Rattle.upstream_claim.specs.Numbered.{Numbered, is_next, handed, waiting_lim
 abbrev pub space : List Parts → ℕ
 space waiting = waiting_limit - length waiting
 
--- the number of the claims, and the lines that wait to be claimed
+-- the number of claims, and the lines that wait to be claimed
 pub record IsKept (n : ℕ) (lines : List Parts) (q : Numbered) : Type 0 where
   pub count : n ≡ length q.claimed
   pub within : length q.claimed ≤ length q.outgoing
   pub waiting : lines ≡ drop (length q.claimed) q.outgoing
 
--- the line of a number is handed out where it is to be claimed next
+-- the line of a number is handed out where it is the next to be claimed
 abbrev pub handed_next : {E : Type 0} → Numbered → SessionId → ℕ → List (ClaimsEffect E)
 handed_next q id n = if is_next q n then handed id n (slice_get q.outgoing (n - 1)) else []
 
--- a claim is added where it is of the line that is to be claimed next
+-- a claim is added where it is for the next line to be claimed
 abbrev pub claimed_next : Numbered → SessionId → ℕ → Numbered
 claimed_next q id n = if is_next q n then with_claim q id n else q

@@ -14,10 +14,10 @@ use std::alloc::{AllocError, Global};
 use std::collections::VecDeque;
 use wire_bytes::{Moment, Number, Origin};
 
-/// A machine whose lines for upstream are numbered from 1 and kept until the session in force claims them, in their
-/// order, each once. While 1,000 lines wait, a further one gets no number, and its client is told so.
+/// A machine whose lines for upstream are numbered from 1 and kept until the session in force claims them, in order,
+/// each once. While 1,000 lines wait, a further one gets no number, and its client gets `Busy`.
 ///
-/// A claimed line is let go: only those that wait are kept, and how many were claimed.
+/// A claimed line is dropped: only the lines that wait are kept, and how many were claimed.
 #[derive(Drop)]
 pub struct Claims<M: HasSession> {
     alloc: Global,
@@ -37,7 +37,7 @@ impl<M: HasSession> Claims<M> {
         &self.machine
     }
 
-    /// The number of the line that is to be claimed next, where a line is numbered and not claimed.
+    /// The number of the next line to be claimed, where a line is numbered and not claimed.
     pub fn next_claim(&self) -> Option<u64>
         ensures { (s : M.Setup) (earlier : History (ClaimsCommand M.Command))
             → ⟦<Claims<M> as Machine>⟧.stands self.now s earlier
@@ -46,7 +46,7 @@ impl<M: HasSession> Claims<M> {
         self.unclaimed.next()
     }
 
-    /// The lines that wait to be claimed, the one to be claimed next first.
+    /// The lines that wait, in the order in which they are to be claimed.
     pub fn waiting(&self) -> &VecDeque<Line>
         ensures { (s : M.Setup) (earlier : History (ClaimsCommand M.Command))
             → ⟦<Claims<M> as Machine>⟧.stands self.now s earlier

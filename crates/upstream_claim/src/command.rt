@@ -63,7 +63,7 @@ impl<C: Wire> Wire for ClaimsCommand<C> {
     ghost is_codec = { command_is_codec C.spelled C.fits C.taken C.is_codec };
 }
 
-/// The command below, behind a kind byte.
+/// The command below, after a kind byte.
 #[tactic(auto, using(wire_bytes::proofs::Steps::composed))]
 fn take_inner<C: Wire>(alloc: Global, input: &[u8]) -> Result<(ClaimsCommand<C>, usize), WireFault>
     requires { 1 ≤ length input.now }
@@ -75,7 +75,7 @@ fn take_inner<C: Wire>(alloc: Global, input: &[u8]) -> Result<(ClaimsCommand<C>,
     Ok((ClaimsCommand::Inner(command), end))
 }
 
-/// The claim behind a kind byte.
+/// The claim after a kind byte.
 #[tactic(auto, using(wire_bytes::proofs::Steps::composed))]
 fn take_claim<C: Drop>(alloc: Global, input: &[u8]) -> Result<(ClaimsCommand<C>, usize), WireFault>
     requires { 1 ≤ length input.now }

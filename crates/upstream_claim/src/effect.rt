@@ -10,7 +10,7 @@ use wire_bytes::{Copied, Origin, SessionId};
 pub enum ClaimsEffect<E> {
     /// An effect of the machine below.
     Inner(E),
-    /// The client's line was not numbered, as too many lines wait to be claimed, and does not go upstream.
+    /// The client's line was not numbered, since too many lines wait to be claimed, and it does not go upstream.
     Busy(Origin),
     /// The session sends the line of this number upstream.
     Hand(SessionId, u64, Line),

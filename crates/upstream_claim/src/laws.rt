@@ -1,4 +1,4 @@
-//! That each line is claimed once.
+//! Each line is claimed once.
 ghost use Rattle.std.specs.Prelude.{◌≡◌, ◌≤◌, ◌+◌, ◌-◌, ◌∷◌, ◌++◌, ℕ, length, map, slice_get, take, Some};
 ghost use Rattle.irc_line.specs.Lines.{Parts};
 ghost use Rattle.machine_laws.specs.Runs.{History};
@@ -10,7 +10,7 @@ ghost use Rattle.upstream_claim.specs.Numbered.{waiting_limit};
 use crate::command::ClaimsCommand;
 use machine_laws::HasSession;
 
-/// The claims that took effect have the numbers from 1 on, in order and each once, and each is of a line that was
+/// The claims that took effect have the numbers from 1 on, in order and each once, and each is for a line that was
 /// numbered; at most 1,000 lines wait.
 #[tactic(auto, using(crate::proofs::Sound::claims_in_order, crate::proofs::Sound::claims_once, crate::proofs::Sound::claims_numbered, crate::proofs::Sound::few_wait))]
 pub fn each_line_is_claimed_once<M: HasSession>()
@@ -30,8 +30,8 @@ pub fn each_line_is_claimed_once<M: HasSession>()
         (M.effects s) h) + waiting_limit }
 {}
 
-/// The lines that a command hands out are those of the claims that it adds, in order; each is the line of its number.
-/// A line that was numbered keeps its number.
+/// The lines that a command hands out are those of the claims that it adds, in order; each is the line of its number. A
+/// line that was numbered keeps its number.
 #[tactic(auto, using(crate::proofs::Handing::hands_are_claims, crate::proofs::Handing::hands_are_lines, crate::proofs::Handing::lines_stay))]
 pub fn each_hand_is_a_claim<M: HasSession>()
     ensures claims { (s : M.Setup) (h : History (ClaimsCommand M.Command)) (place : ℕ)

@@ -1,7 +1,6 @@
-//! Lines for upstream that are numbered, kept until they are claimed and handed out once, over any machine that
-//! knows the session in force.
-//! Stands under bouncer_tower, client_gate and driver, among others.
-//! Promises that over a whole list the lines handed out are those of the claims, and no number is handed out twice.
+//! Lines for upstream that are numbered, kept until they are claimed and handed out once, over any machine that knows
+//! the session in force. Used by bouncer_tower, client_gate and driver, among others. Promises that over a whole list
+//! the lines handed out are those of the claims, and no number is handed out twice.
 #![tactic(auto)]
 
 mod claims;

@@ -11,7 +11,8 @@ use machine_laws::{ApplyFault, HasSession, single};
 use std::alloc::{AllocError, Global};
 use wire_bytes::{Number, SessionId};
 
-/// Numbers the line that an effect sends, while there is room for it; any other effect stays.
+/// Numbers the line that an effect sends, while there is room for it; any other effect is passed
+/// on.
 fn answer_one<M: HasSession>(
     unclaimed: &mut Unclaimed,
     answers: &mut Vec<ClaimsEffect<M::Effect>>,
@@ -57,7 +58,7 @@ fn answer_all<M: HasSession>(
     Ok(answers)
 }
 
-/// The line of a number, where it is the one to be claimed next, handed out by a session.
+/// The line of a number, handed out by a session, if it is the next to be claimed.
 fn hand<E: Drop>(
     alloc: Global,
     unclaimed: &mut Unclaimed,
@@ -75,7 +76,7 @@ fn hand<E: Drop>(
     }
 }
 
-/// What a command does to the machine below and to the lines that wait to be claimed.
+/// Applies a command to the machine below and to the lines that wait to be claimed.
 pub fn step<M: HasSession>(
     alloc: Global,
     machine: &mut M,

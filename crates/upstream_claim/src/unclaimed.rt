@@ -9,10 +9,10 @@ use std::collections::VecDeque;
 use wire_bytes::Number;
 
 /// The most lines that wait to be claimed.
-// each is held in memory while there is no server, and a line that comes hours late is out of place
+// each is held in memory while there is no server, and a line that is sent hours late makes no sense any more
 const MOST_LINES: usize = 1_000;
 
-/// The lines that wait to be claimed, the one to be claimed next first, and how many were claimed before it.
+/// The lines that wait, in the order in which they are to be claimed, and how many were claimed before them.
 #[derive(Drop)]
 pub struct Unclaimed {
     pub count: u64,
@@ -38,7 +38,7 @@ impl Unclaimed {
         self.lines.len() >= MOST_LINES
     }
 
-    /// The number of the line that is to be claimed next.
+    /// The number of the next line to be claimed.
     pub fn next(&self) -> Option<u64>
         ensures { result
             ≡ (if nat_lt 0 (length self.now.lines.items) then Some (self.now.count + 1) else None) }
@@ -50,7 +50,7 @@ impl Unclaimed {
         }
     }
 
-    /// Has a line wait behind all others.
+    /// Adds a line after all others that wait.
     pub fn keep(&mut self, line: Line) -> Result<(), AllocError>
         ensures lines { OnOk result (self.new.lines.items ≡ self.old.lines.items ++ line ∷ []) }
         ensures count { self.new.count ≡ self.old.count }
@@ -59,7 +59,7 @@ impl Unclaimed {
         Ok(())
     }
 
-    /// The line of a number, which waits no longer, where it is to be claimed next.
+    /// Removes and returns the line of a number, where it is the next to be claimed.
     pub fn claim(&mut self, number: Number) -> Option<Line>
         ensures line { result
             ≡ (if number == self.old.count + 1 then slice_get self.old.lines.items 0 else None) }

@@ -1,4 +1,4 @@
--- What follows for the fronts of an input from a codec's law that what is spelled is read back.
+-- What a codec's law that what is spelled is read back means for the fronts of an input.
 use Rattle.std.proofs.Common.{◌≡◌, ℕ, List, [], ◌++◌, length, take, drop, Result, Ok, Err, sym, ap, ◌∙◌, arith}
 use Rattle.std.proofs.lemmas.List.{take-append-drop, append-nil, length-append, nil_from_length}
 use Rattle.wire_bytes.specs.declared.wire_fault.WireFault.{WireFault}
@@ -17,7 +17,7 @@ answer_is r s e = cc
 answer_or : {X : Type 0} (r : X × ℕ) (e : WireFault) → answer r ≡ Err e → ⊥
 answer_or r e h = cc
 
--- two spellings of which one begins the other are read as the same
+-- where one spelling begins the other, both are read as the same value
 same_answer : {X : Type 0} (spelled : X → List ℕ) (fits : X → Type 0) (taken : Reading X) → ReadsBack spelled fits taken
     → (a b : X) (rest : List ℕ) → fits a → fits b → spelled a ≡ spelled b ++ rest → answer (a, length (spelled a)) ≡ answer (b, length (spelled b))
 same_answer spelled fits taken back a b rest fa fb e =

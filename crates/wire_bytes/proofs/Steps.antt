@@ -1,4 +1,4 @@
--- What composed readings answer, step by step.
+-- What composed readings return, step by step.
 use Rattle.std.proofs.Common.{[], ◌∷◌, Option, Some, None, ◌≡◌, ℕ, ◌+◌, List, drop, Result, Ok, Err, refl, sym, ap, subst, ◌∙◌, arith, zero-add}
 use Rattle.std.proofs.lemmas.List.{drop-drop}
 use Rattle.wire_bytes.specs.declared.wire_fault.WireFault.{WireFault}
@@ -43,7 +43,7 @@ moved-goes_on n (Err (Bad p)) next input = refl
 moved-goes_on n (Err Short) next input = refl
 moved-goes_on n (Err Memory) next input = refl
 
--- one behind the other, behind so many bytes
+-- one after the other, after this many bytes
 pub behind-then : {X Y : Type 0} (n : ℕ) (first : Reading X) (next : X → Reading Y) (input : List ℕ) → behind n (first >>= next) input ≡ goes_on (behind n first input) (λ x k. behind k (next x) input)
 unfolding behind ◌>>=◌
 behind-then n first next input = moved-goes_on n (first (drop n input)) next input
@@ -77,7 +77,7 @@ unfolding both
 both-stops_behind first second n input x m e h f =
     behind-then n first (λ a. through (λ b. pair a b) second) input ∙ (ap (λ r. goes_on r (λ a i. behind i (through (λ b. pair a b) second) input)) h ∙ through-stops (λ b. pair x b) second m input e f)
 
--- ---- a reading behind so many bytes, by what it answers there
+-- ---- a reading after this many bytes, by what it returns there
 
 pub behind-read : {X : Type 0} (n : ℕ) (reading : Reading X) (input rest : List ℕ) (x : X) (k : ℕ) → rest ≡ drop n input → reading rest ≡ Ok (x, k) → behind n reading input ≡ Ok (x, n + k)
 unfolding behind
@@ -92,7 +92,7 @@ AreBytes-behind n input rest at h = subst (λ (t : List ℕ). AreBytes t) (sym a
 
 -- ---- a choice by its kind byte
 
--- what is listed for the kind is read behind it
+-- the reading that is listed for the kind follows it
 pub choice-read : {X : Type 0} (cases : List (ℕ × Reading X)) (input : List ℕ) (kind : ℕ) (reading : Reading X) (r : Result (X × ℕ) WireFault)
     → input ≡ kind ∷ drop 1 input → reading_of kind cases ≡ Some reading → behind 1 reading input ≡ r → choice cases input ≡ r
 choice-read {X} cases input kind reading r at listed e =
@@ -106,5 +106,5 @@ choice-refused {X} cases input kind at none = ap (choice cases) at ∙ ap (λ (o
 pub choice-short : {X : Type 0} (cases : List (ℕ × Reading X)) (input : List ℕ) → input ≡ [] → choice cases input ≡ Err Short
 choice-short cases input at = ap (choice cases) at
 
--- what the search needs for a composed reading
+-- the rules that the search needs for a composed reading
 pub ruleset composed = (behind-done, through-read, through-stops)

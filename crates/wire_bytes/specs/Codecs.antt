@@ -1,4 +1,5 @@
--- Codecs: what is spelled is read, what is read is spelled so. How they are composed need not be believed: these are lemmas.
+-- Codecs: what is spelled is read back, and what is read is spelled so. These are lemmas; nothing here has to be
+-- trusted.
 use Rattle.std.proofs.Common.{◌≡◌, ℕ, ◌+◌, ◌<◌, ◌≤◌, ◌⊎◌, inl, inr, Bool, true, false, cond, List, [], ◌++◌, length, take, drop, Result, Ok, Err, IsTrue, refl, sym, ap, subst, ◌∙◌, append_assoc, arith, add-zero}
 use Rattle.std.proofs.Math.Seq.{drop-append_seam, take-add}
 use Rattle.std.proofs.lemmas.List.{length-append, length-take, length-drop, get_or-drop}
@@ -6,8 +7,8 @@ use Rattle.wire_bytes.specs.declared.wire_fault.WireFault.{WireFault}
 use Rattle.wire_bytes.specs.declared.wire_fault.WireFault.TheVariants.{Short, Bad, Memory}
 use Rattle.wire_bytes.specs.Fields.{AreBytes, Reading, done, moved, behind, goes_on, ◌>>=◌, through, both, tested, only}
 
--- the values that fit have one spelling each, which is read again, whatever follows it; a refused field begins within the
--- input, and what an input gives is never want of memory
+-- each value that fits has one spelling, which is read back, whatever follows it; a refused field begins within the
+-- input, and what an input gives is never an out-of-memory error
 pub record IsCodec {X : Type 0} (spelled : X → List ℕ) (fits : X → Type 0) (taken : Reading X) : Type 0 where
   pub read_back : (v : X) (rest : List ℕ) → fits v → taken (spelled v ++ rest) ≡ Ok (v, length (spelled v))
   pub one_spelling : (input : List ℕ) (v : X) (n : ℕ) → AreBytes input → taken input ≡ Ok (v, n) → fits v × (take n input ≡ spelled v) × (n ≤ length input)
@@ -17,7 +18,7 @@ pub record IsCodec {X : Type 0} (spelled : X → List ℕ) (fits : X → Type 0)
 pub AreBytes-drop : (n : ℕ) (bytes : List ℕ) → AreBytes bytes → AreBytes (drop n bytes)
 AreBytes-drop n bytes h i = rw get_or-drop (h (n + i))
 
--- what a result has, and that it has only this
+-- the result of a reading that gives this value, of this length
 abbrev pub read : {X : Type 0} → X → ℕ → Result (X × ℕ) WireFault
 read x n = Ok (x, n)
 
@@ -43,13 +44,13 @@ pub goes_on-ok : {X Y : Type 0} (r : Result (X × ℕ) WireFault) (next : X → 
 goes_on-ok (Ok x) next y e = (x, refl, e)
 goes_on-ok (Err d) next y e = absurd cc
 
--- the first reading was refused, or the one behind it
+-- the first reading was refused, or the one after it was
 pub goes_on-bad : {X Y : Type 0} (r : Result (X × ℕ) WireFault) (next : X → ℕ → Result (Y × ℕ) WireFault) (p : ℕ)
     → goes_on r next ≡ Err (Bad p) → (r ≡ Err (Bad p)) ⊎ ((x : X × ℕ) × (r ≡ Ok x) × (next x.0 x.1 ≡ Err (Bad p)))
 goes_on-bad (Ok x) next p e = inr (x, refl, e)
 goes_on-bad (Err d) next p e = inl cc
 
--- want of memory came from the first reading, or from the one behind it
+-- memory ran out in the first reading, or in the one after it
 pub goes_on-memory : {X Y : Type 0} (r : Result (X × ℕ) WireFault) (next : X → ℕ → Result (Y × ℕ) WireFault)
     → goes_on r next ≡ Err Memory → (r ≡ Err Memory) ⊎ ((x : X × ℕ) × (r ≡ Ok x) × (next x.0 x.1 ≡ Err Memory))
 goes_on-memory (Ok x) next e = inr (x, refl, e)
@@ -85,7 +86,7 @@ pub behind-bad : {X : Type 0} (n : ℕ) (reading : Reading X) (input : List ℕ)
 unfolding behind
 behind-bad n reading input p e = moved-bad n (reading (drop n input)) p e
 
--- what stands behind a front that was spelled
+-- what follows a front that was spelled
 pub behind-front : {X : Type 0} (reading : Reading X) (front rest : List ℕ) (y : X) (k : ℕ) → reading rest ≡ Ok (y, k) → behind (length front) reading (front ++ rest) ≡ Ok (y, length front + k)
 unfolding behind
 behind-front reading front rest y k e = rw (drop-append_seam front rest, e) refl
@@ -93,9 +94,9 @@ behind-front reading front rest y k e = rw (drop-append_seam front rest, e) refl
 pub take-joined : (n k : ℕ) (input a b : List ℕ) → take n input ≡ a → take k (drop n input) ≡ b → take (n + k) input ≡ a ++ b
 take-joined n k input a b p q = rw (take-add n k input, p, q) refl
 
--- ---- one behind the other
+-- ---- one after the other
 
--- A codec behind a codec. Related says which front a value has; the spelling is the front's and then rest.
+-- A codec after a codec. Related says which front a value has; the spelling is the front's, followed by rest.
 pub then-codec : {X Y : Type 0} (spelled rest : Y → List ℕ) (fits : Y → Type 0) (front : X → List ℕ) (front_fits : X → Type 0) (first : Reading X) (next : X → Reading Y) (Related : X → Y → Type 0)
     → IsCodec front front_fits first → ((y : Y) → fits y → (x : X) × front_fits x × Related x y) → ((x : X) (y : Y) → Related x y → spelled y ≡ front x ++ rest y)
     → ((x : X) → front_fits x → IsCodec rest (λ y. fits y × Related x y) (next x)) → IsCodec spelled fits (first >>= next)
@@ -168,7 +169,7 @@ memory-through {X} {Y} make reading input e =
       | inr g ↦ absurd (ok_or_bad (make g.0.0, g.0.1) Memory (sym (behind-done g.0.1 (make g.0.0) input) ∙ g.2))
     ]
 
--- A codec through a constructor, which gives each value that fits from its parts.
+-- A codec through a constructor, which makes each value that fits from its parts.
 pub through-codec : {X Y : Type 0} (spelled : Y → List ℕ) (fits : Y → Type 0) (front : X → List ℕ) (front_fits : X → Type 0) (reading : Reading X) (make : X → Y)
     → IsCodec front front_fits reading → ((x : X) → front_fits x → fits (make x)) → ((x : X) → front_fits x → spelled (make x) ≡ front x) → ((y : Y) → fits y → (x : X) × front_fits x × (make x ≡ y))
     → IsCodec spelled fits (through make reading)
@@ -188,7 +189,7 @@ through-codec {X} {Y} spelled fits front front_fits reading make codec makes spe
   no_memory = λ input bytes e. codec.no_memory input bytes (memory-through make reading input e);
 }
 
--- A value that is all that fits, and is spelled by no byte.
+-- The only value that fits, which is spelled by no byte.
 pub done-codec : {X : Type 0} (spelled : X → List ℕ) (fits : X → Type 0) (v : X) → fits v → spelled v ≡ [] → ((w : X) → fits w → v ≡ w) → IsCodec spelled fits (done v)
 done-codec {X} spelled fits v here empty only = record {
   read_back = λ w rest h. subst (λ (x : X). done v (spelled x ++ rest) ≡ Ok (x, length (spelled x))) (only w h) (ap (λ (t : List ℕ). read v (length t)) (sym empty));
@@ -199,7 +200,7 @@ done-codec {X} spelled fits v here empty only = record {
   no_memory = λ input bytes e. ok_or_bad (v, 0) Memory e;
 }
 
--- A codec behind a codec gives the pairs.
+-- A codec after a codec gives the pairs.
 pub both-codec : {X Y : Type 0} (front : X → List ℕ) (front_fits : X → Type 0) (first : Reading X) (rest : Y → List ℕ) (rest_fits : Y → Type 0) (second : Reading Y)
     → IsCodec front front_fits first → IsCodec rest rest_fits second
     → IsCodec (λ (p : X × Y). front p.0 ++ rest p.1) (λ p. front_fits p.0 × rest_fits p.1) (both first second)

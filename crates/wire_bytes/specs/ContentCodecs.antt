@@ -1,4 +1,4 @@
--- A content behind its length is a codec, and so are names and texts. These are lemmas, which need not be believed.
+-- A content after its length is a codec, and so are names and texts. These are lemmas; nothing here has to be trusted.
 use Rattle.std.proofs.Common.{◌≡◌, ℕ, suc, ◌+◌, ◌^◌, ◌<◌, ◌≤◌, ◌⊎◌, inl, inr, Bool, true, false, cond, ltb, leb, List, ◌++◌, length, take, drop, Option, Some, None, Result, Ok, Err, IsTrue, refl, sym, ap, subst, ◌∙◌, arith}
 use Rattle.std.specs.Prelude.{◌&&◌}
 use Rattle.std.specs.Int.{w16, from_be_bytes, to_be_bytes}
@@ -25,7 +25,7 @@ accepted_bytes-ok : {X : Type 0} (judge : List ℕ → Option X) (r : Result (Li
 accepted_bytes-ok judge (Ok bytes) v k e = let j = accepted-ok (length bytes) (judge bytes) v k e in (bytes, refl, j.0, j.1)
 accepted_bytes-ok judge (Err d) v k e = absurd cc
 
--- a place is answered for bytes that are there, or for none at all
+-- a place is reported for bytes that are there, or for none at all
 accepted_bytes-bad : {X : Type 0} (judge : List ℕ → Option X) (r : Result (List ℕ) WireFault) (p : ℕ) → accepted_bytes judge r ≡ Err (Bad p) → ((bytes : List ℕ) × (r ≡ Ok bytes) × (p ≡ 0)) ⊎ (r ≡ Err (Bad p))
 accepted_bytes-bad judge (Ok bytes) p e = inl (bytes, refl, accepted-bad (length bytes) (judge bytes) p e)
 accepted_bytes-bad judge (Err d) p e = inr cc

@@ -1,4 +1,4 @@
--- Names, texts and lines as bytes: two bytes of length and that many bytes, which are one field.
+-- Names, texts and lines as bytes: a length in two bytes and that many bytes, which are one field.
 use Rattle.std.specs.Prelude.{ℕ, ◌+◌, ◌≤◌, Bool, if◌then◌else◌, nat_lt, List, ◌++◌, length, take, drop, Option, Some, None, IsTrue, Result, Ok, Err}
 use Rattle.std.specs.Int.{w16, to_be_bytes, from_be_bytes}
 use Rattle.irc_line.specs.Names.{is_name, is_text}
@@ -13,7 +13,7 @@ use Rattle.irc_line.specs.Limits.{line_limit}
 unfoldable pub sized : List ℕ → List ℕ
 sized bytes = to_be_bytes w16 (length bytes) ++ bytes
 
--- so many bytes behind the length, once they are there
+-- this many bytes after the length, once they are there
 abbrev pub sized_bytes_of : ℕ → List ℕ → Result (List ℕ) WireFault
 sized_bytes_of n input = if nat_lt (length input) (2 + n) then Err Short else Ok (take n (drop 2 input))
 
@@ -21,7 +21,7 @@ sized_bytes_of n input = if nat_lt (length input) (2 + n) then Err Short else Ok
 unfoldable pub sized_bytes : List ℕ → Result (List ℕ) WireFault
 sized_bytes input = if nat_lt (length input) 2 then Err Short else sized_bytes_of (from_be_bytes w16 (take 2 input)) input
 
--- the value of so many bytes, where they are one
+-- the value of this many bytes, if they are one
 abbrev pub accepted : {X : Type 0} → ℕ → Option X → Result (X × ℕ) WireFault
 accepted n None = Err (Bad 0)
 accepted n (Some v) = Ok (v, 2 + n)
@@ -51,7 +51,7 @@ text = content (passed is_text)
 abbrev pub FitsLine : Parts → Type 0
 FitsLine p = IsTrue (is_line p) × (length (spelling p) ≤ line_limit)
 
--- the canonical spelling, behind its length
+-- the canonical spelling, after its length
 unfoldable pub spelled_line : Parts → List ℕ
 spelled_line p = sized (spelling p)
 

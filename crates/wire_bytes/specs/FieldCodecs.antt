@@ -1,4 +1,4 @@
--- Each field is a codec. These are lemmas, which need not be believed.
+-- Each field is a codec. These are lemmas; nothing here has to be trusted.
 use Rattle.std.proofs.Common.{◌≡◌, ℕ, zero, suc, ◌^◌, ◌<◌, ◌≤◌, inl, inr, Bool, true, false, cond, ltb, leb, List, [], ◌∷◌, ◌++◌, length, take, Option, Some, Result, Ok, Err, refl, sym, ap, subst, ◌∙◌, arith}
 use Rattle.std.specs.Prelude.{◌&&◌}
 use Rattle.std.specs.Int.{Width, w16, w32, w64, byte_len, from_be_bytes, to_be_bytes}
@@ -38,7 +38,7 @@ answer_or x d e = cc
 pub place_is : {A : Type 0} (a b : ℕ) → refused {A = A} (Bad a) ≡ refused (Bad b) → a ≡ b
 place_is a b e = cc
 
--- a test that refuses, and what was answered
+-- a test that refuses, and what was returned
 pub unless_ok : {A : Type 0} (b : Bool) (d : WireFault) (r : Result A WireFault) (y : A) → cond b (Err d) r ≡ Ok y → (b ≡ false) × (r ≡ Ok y)
 unless_ok true d r y e = absurd cc
 unless_ok false d r y e = (refl, e)
@@ -144,7 +144,7 @@ truth_is_codec = record {
 
 -- ---- a number
 
--- what a width's bytes have to be
+-- what the bytes of a width must be
 pub record IsWide (w : Width) (limit : ℕ) : Type 0 where
   pub some : 0 < byte_len w
   pub len : (n : ℕ) → length (to_be_bytes w n) ≡ byte_len w

@@ -8,7 +8,7 @@ use Rattle.wire_bytes.specs.declared.wire_fault.WireFault.TheVariants.{Short, Ba
 abbrev pub AreBytes : List ℕ → Type 0
 AreBytes bytes = (i : ℕ) → slice_index bytes i < 256
 
--- what stands where an appending answered so: these bytes behind the others, or the others alone
+-- what is there after an append that returned this: these bytes after the others, or the others alone
 abbrev pub appended : {A E : Type 0} → Result A E → List ℕ → List ℕ → List ℕ
 appended result old more = if is_ok result then old ++ more else old
 
@@ -20,18 +20,18 @@ Reading X = List ℕ → Result (X × ℕ) WireFault
 abbrev pub done : {X : Type 0} → X → Reading X
 done v input = Ok (v, 0)
 
--- a fault of what stands behind so many bytes
+-- a fault of what follows this many bytes
 abbrev pub shifted : ℕ → WireFault → WireFault
 shifted n Short = Short
 shifted n (Bad place) = Bad (n + place)
 shifted n Memory = Memory
 
--- what was read behind so many bytes, these counted too
+-- what was read after this many bytes, these counted too
 abbrev pub moved : {X : Type 0} → ℕ → Result (X × ℕ) WireFault → Result (X × ℕ) WireFault
 moved n (Ok r) = Ok (r.0, n + r.1)
 moved n (Err e) = Err (shifted n e)
 
--- the same reading behind so many bytes of the input
+-- the same reading after this many bytes of the input
 unfoldable pub behind : {X : Type 0} → ℕ → Reading X → Reading X
 behind n reading input = moved n (reading (drop n input))
 
@@ -41,7 +41,7 @@ goes_on (Ok r) next = next r.0 r.1
 goes_on (Err e) next = Err e
 
 infixl 10 ◌>>=◌
--- one reading behind another, which may look at what the first one read
+-- one reading after another, which may look at what the first one read
 unfoldable pub ◌>>=◌ : {X Y : Type 0} → Reading X → (X → Reading Y) → Reading Y
 (first >>= next) input = goes_on (first input) (λ x n. behind n (next x) input)
 
@@ -49,7 +49,7 @@ unfoldable pub ◌>>=◌ : {X Y : Type 0} → Reading X → (X → Reading Y) �
 unfoldable pub through : {X Y : Type 0} → (X → Y) → Reading X → Reading Y
 through make reading = reading >>= λ x. done (make x)
 
--- two readings, one behind the other
+-- two readings, one after the other
 unfoldable pub both : {X Y : Type 0} → Reading X → Reading Y → Reading (X × Y)
 both first second = first >>= λ x. through (λ y. (x, y)) second
 
@@ -67,12 +67,12 @@ abbrev pub reading_of : {X : Type 0} → ℕ → List (ℕ × Reading X) → Opt
 reading_of kind [] = None
 reading_of kind (c ∷ cases) = if kind == c.0 then Some c.1 else reading_of kind cases
 
--- what is read behind the kind byte, where a reading was listed for it
+-- what is read after the kind byte, where a reading was listed for it
 abbrev pub chosen : {X : Type 0} → Option (Reading X) → Reading X
 chosen None input = Err (Bad 0)
 chosen (Some reading) input = behind 1 reading input
 
--- a kind byte, and behind it the reading that is listed for it; any other kind byte is refused
+-- a kind byte, and after it the reading that is listed for it; any other kind byte is refused
 abbrev pub choice : {X : Type 0} → List (ℕ × Reading X) → Reading X
 choice cases [] = Err Short
 choice cases (kind ∷ rest) = chosen (reading_of kind cases) (kind ∷ rest)

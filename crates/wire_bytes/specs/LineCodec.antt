@@ -1,4 +1,4 @@
--- A line is a codec. These are lemmas, which need not be believed.
+-- A line is a codec. These are lemmas; nothing here has to be trusted.
 use Rattle.std.proofs.Common.{length, ◌≡◌, ◌<◌, ℕ, Bool, true, false, cond, List, Some, None, Result, Ok, Err, refl, sym, ap, ◌∙◌, arith}
 use Rattle.irc_line.specs.Names.{same_bytes}
 use Rattle.irc_line.specs.Lines.{Parts, spelling}

@@ -1,4 +1,4 @@
--- The small values are codecs. These are lemmas, which need not be believed.
+-- The small values are codecs. These are lemmas; nothing here has to be trusted.
 use Rattle.std.proofs.Common.{ℕ, ◌^◌, ◌≤◌, ◌∷◌, [], ◌++◌, refl, arith}
 use Rattle.std.specs.Int.{w64}
 use Rattle.wire_bytes.specs.Fields.{byte_within, both}

@@ -3,7 +3,7 @@ ghost use Rattle.std.specs.Prelude.{◌≡◌, IfOk, Ok};
 use irc_line::{Line, Name, Text};
 use std::alloc::{AllocError, Global};
 
-/// A value that can be copied where there is memory.
+/// A value that can be copied if there is memory.
 pub trait Copied: Drop {
     fn copy(&self, alloc: Global) -> Result<Self, AllocError>
         ensures { IfOk result (λ c. c ≡ self.now) };

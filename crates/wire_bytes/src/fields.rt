@@ -9,7 +9,7 @@ use crate::wire::Wire;
 use crate::wire_fault::WireFault;
 use std::alloc::{AllocError, Global};
 
-/// One byte between these limits. Short where there is none, Bad where it lies outside.
+/// One byte between these limits. Short if there is none, Bad if it is outside.
 pub fn take_byte(input: &[u8], least: u8, most: u8) -> Result<(u8, usize), WireFault>
     ensures value { result ≡ byte_within least most input.now }
     ensures no_memory { IfErr result (λ e. e ≢ WireFault.Memory) }
@@ -27,7 +27,7 @@ pub fn take_byte(input: &[u8], least: u8, most: u8) -> Result<(u8, usize), WireF
     }
 }
 
-/// A number in two bytes, the highest first. Short where they are not there, Bad where it is past the limit.
+/// A number in two bytes, the highest first. Short if they are not there, Bad if it is past the limit.
 #[tactic(auto, unfolding(crate::specs::Fields::number_to))]
 pub fn take_u16(input: &[u8], most: u16) -> Result<(u16, usize), WireFault>
     ensures value { result ≡ number_to w16 most input.now }
@@ -46,7 +46,7 @@ pub fn take_u16(input: &[u8], most: u16) -> Result<(u16, usize), WireFault>
     }
 }
 
-/// A number in four bytes, the highest first. Short where they are not there, Bad where it is past the limit.
+/// A number in four bytes, the highest first. Short if they are not there, Bad if it is past the limit.
 #[tactic(auto, unfolding(crate::specs::Fields::number_to))]
 pub fn take_u32(input: &[u8], most: u32) -> Result<(u32, usize), WireFault>
     ensures value { result ≡ number_to w32 most input.now }
@@ -65,7 +65,7 @@ pub fn take_u32(input: &[u8], most: u32) -> Result<(u32, usize), WireFault>
     }
 }
 
-/// A number in eight bytes, the highest first. Short where they are not there, Bad where it is past the limit.
+/// A number in eight bytes, the highest first. Short if they are not there, Bad if it is past the limit.
 #[tactic(auto, unfolding(crate::specs::Fields::number_to))]
 pub fn take_u64(input: &[u8], most: u64) -> Result<(u64, usize), WireFault>
     ensures value { result ≡ number_to w64 most input.now }
@@ -86,7 +86,7 @@ pub fn take_u64(input: &[u8], most: u64) -> Result<(u64, usize), WireFault>
     }
 }
 
-/// The bytes that a length in two bytes announces. Short where they are not all there.
+/// The bytes that a length in two bytes announces. Short if they are not all there.
 #[tactic(auto, unfolding(crate::specs::Contents::sized_bytes))]
 pub fn take_sized(input: &[u8]) -> Result<&[u8], WireFault>
     ensures ok { IfOk result (λ bytes. sized_bytes input.now ≡ Ok bytes.now) }
@@ -106,7 +106,7 @@ pub fn take_sized(input: &[u8]) -> Result<&[u8], WireFault>
     Ok(bytes)
 }
 
-/// Hands an outcome on; where it is a refusal, all that was appended behind the first `len` bytes is removed.
+/// Returns the given result; if it is an error, all that was appended after the first `len` bytes is removed.
 pub fn undo(
     out: &mut Vec<u8>,
     len: usize,
@@ -137,7 +137,8 @@ pub fn put_sized(out: &mut Vec<u8>, bytes: &[u8]) -> Result<(), AllocError>
     undo(out, len, outcome)
 }
 
-/// Reads a value from a place of the input on, which is at most its length. Places and the end are counted from the input's front.
+/// Reads a value from this place of the input on, which is at most its length. Places and the end are counted from the
+/// input's front.
 pub fn take_behind<W: Wire>(
     alloc: Global,
     input: &[u8],

@@ -1,12 +1,11 @@
-//! Values as bytes: each value has one spelling, and small types that keep their limits.
-//! Stands under nearly all other crates, buffer_commands, raft_log and recorder among them.
-//! Promises that a value within its limits has one spelling, read back whatever follows it; none begins another.
+//! Values as bytes: each value has one spelling, and small types that keep their limits. Used by nearly all other
+//! crates, buffer_commands, raft_log and recorder among them. Promises that a value within its limits has one spelling,
+//! read back whatever follows it; none begins another.
 //!
-//! A value of several fields is read as `both`, `through`, `only` and `choice` of `specs/Fields` say, and has the
-//! laws of [`Wire`] by the lemmas of `specs/Codecs`. Its `take` asks
-//! [`take_behind`] for what stands behind its kind byte, where a pair of values is one behind the other; with the rules
-//! `composed` of `proofs/Steps` the search proves it. Its `put` appends one field after the other and hands the
-//! outcome to [`undo`].
+//! A value of several fields is read as `both`, `through`, `only` and `choice` of `specs/Fields` say, and has the laws
+//! of [`Wire`] by the lemmas of `specs/Codecs`. Its `take` calls [`take_behind`] for what follows its kind byte, where
+//! a pair of values is one after the other; with the rules `composed` of `proofs/Steps` the search proves it. Its `put`
+//! appends one field after the other and passes the outcome to [`undo`].
 #![tactic(auto)]
 
 mod bytes;

@@ -8,7 +8,7 @@ ghost use Rattle.wire_bytes.specs.Limits.{body_limit, node_limit, number_limit, 
 pub const BODY_LIMIT: usize = 65_536;
 
 /// The last second that a moment may be, since 1970 in UTC.
-// its year has four digits, as log files spell it: the year 9999 ends with second 253,402,300,799
+// its year has four digits, as log files write it: the year 9999 ends with second 253,402,300,799
 pub const LAST_SECOND: u64 = 250_000_000_000;
 
 /// The last number of a request, a floor, a run, a term, an attempt or a sequence.

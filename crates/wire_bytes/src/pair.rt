@@ -17,7 +17,7 @@ impl<A: Copied, B: Copied> Copied for (A, B) {
     }
 }
 
-/// One value behind the other.
+/// One value after the other.
 impl<A: Wire, B: Wire> Wire for (A, B) {
     ghost spelled = { λ p. A.spelled p.0 ++ B.spelled p.1 };
 

@@ -22,11 +22,11 @@ pub trait Wire: Copied {
     /// The value at the front of an input and the length of its spelling, or what is wrong.
     ghost taken: { Reading Self };
 
-    /// The inputs whose reading may want memory.
+    /// The inputs whose reading may need memory.
     ghost wants: { Wants };
 
-    /// Appends the spelling, or leaves the items as they were. It is refused only where room is missing and no memory
-    /// is left.
+    /// Appends the spelling, or leaves the items as they were. It is refused only if room is missing and no memory is
+    /// left.
     fn put(&self, out: &mut Vec<u8>) -> Result<(), AllocError>
         requires { fits self.now }
         ensures items { out.new.items ≡ appended result out.old.items (spelled self.now) }
@@ -40,6 +40,6 @@ pub trait Wire: Copied {
         ensures memory { WantsWhere result (wants input.now) };
 
     /// What is spelled is read back, whatever follows it; what is read is spelled so, byte by byte; a field that is
-    /// refused begins within the input; and what an input gives is never want of memory.
+    /// refused begins within the input; and what an input gives is never an out-of-memory error.
     ghost is_codec: { IsCodec spelled fits taken };
 }

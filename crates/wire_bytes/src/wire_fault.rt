@@ -10,7 +10,7 @@ pub enum WireFault {
     /// The input ends before a field is whole.
     #[error("the input ends within a field")]
     Short,
-    /// The field whose first byte is at this place, from 0, is none that may stand there.
+    /// The field whose first byte is at this place, from 0, may not have these bytes.
     #[error("the field at byte {0} is refused")]
     Bad(usize),
     #[error("out of memory")]

@@ -9,9 +9,9 @@ pub enum Input<B, L, T> {
     Timeout(NodeId),
     /// A leader sends to all others.
     Beat(NodeId),
-    /// The message of this number, from 1, among those that the node sent, comes to whom it was sent.
+    /// The message of this number, from 1, among those that the node sent, reaches its receiver.
     Deliver(NodeId, u64),
-    /// A client asks, or word comes that a node is gone.
+    /// A client makes a request, or a node is reported gone.
     Ask(NodeId, B),
     /// The upstream session is registered.
     Opened(NodeId),
@@ -23,7 +23,7 @@ pub enum Input<B, L, T> {
     Claim(NodeId),
     /// One entry is applied.
     Apply(NodeId),
-    /// A playback is asked for, at this place or later.
+    /// A playback is requested, at this place or later.
     Look(NodeId, u64, T),
 }
 

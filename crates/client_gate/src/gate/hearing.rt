@@ -1,4 +1,4 @@
-//! What effects make of a gate. After an error the gate is as before.
+//! What effects do to a gate. After an error the gate is as before.
 ghost use Rattle.std.specs.Prelude.{◌≡◌, if◌then◌else◌, IfOk, IsOk, OnErr, OnOk};
 ghost use Rattle.machine_laws.specs.Origins.{same_origin};
 ghost use Rattle.client_gate.specs.Answers.{given_in};

@@ -3,7 +3,7 @@ use Rattle.std.specs.List.{concat}
 use Rattle.buffer_lines.specs.Stamps.{shown_timed}
 use Rattle.buffer_lines.proofs.line_ring.played_text.Given as goal
 
--- so many lines are played
+-- this many lines are played
 abbrev pub invariant-loop-line : goal.invariant-loop-line
 invariant-loop-line l = record {
   text : l.text.items ≡ concat (shown_timed l.offset (take l.line-index l.lines));

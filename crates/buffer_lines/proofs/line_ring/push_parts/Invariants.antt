@@ -2,7 +2,7 @@ use Rattle.std.proofs.Common.{◌≡◌, ◌++◌, take}
 use Rattle.buffer_lines.specs.Parts.{parts, total}
 use Rattle.buffer_lines.proofs.line_ring.push_parts.Given as goal
 
--- so many parts are appended
+-- this many parts are appended
 abbrev pub invariant-loop-length : goal.invariant-loop-length
 invariant-loop-length l = record {
   from : l.from ≡ total (take l.length-index l.lengths);

@@ -4,7 +4,7 @@ use Rattle.stable_store.specs.Stores.{IsHonest}
 use Rattle.journal_folder.specs.Saving.{all_begun_anew}
 use Rattle.journal_folder.proofs.saving.save_group.Given as goal
 
--- so many stores are saved, and the others are as they were
+-- this many stores are saved, and the others are unchanged
 abbrev pub invariant-loop-index : goal.invariant-loop-index
 invariant-loop-index g l = record {
   count : length l.stores ≡ length l.fn.stores;

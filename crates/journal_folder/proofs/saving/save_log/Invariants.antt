@@ -4,7 +4,7 @@ use Rattle.stable_store.specs.Stores.{IsHonest, Serves}
 use Rattle.journal_folder.specs.Saving.{begun_anew}
 use Rattle.journal_folder.proofs.saving.save_log.Given as goal
 
--- so many blocks are saved
+-- this many blocks are saved
 abbrev pub invariant-loop-block : goal.invariant-loop-block
 invariant-loop-block g l = record {
   honest : (g.S.Stable.condition l.store).honest ≡ (g.S.Stable.condition l.fn.store).honest;

@@ -8,7 +8,7 @@ use Rattle.irc_line.proofs.Judging.{judged_line}
 use Rattle.irc_line.proofs.Items.{not_memory}
 use Rattle.irc_line.proofs.line.Line.parse.Goals as goal
 
--- a fault of the content is never want of memory
+-- a fault of the content is never an out-of-memory error
 faulty : {T : Type 0} (content : List ℕ) (fault : LineFault) (r : Result T LineFault) → judged content ≡ Err fault → r ≡ Err fault → IfErr r (λ e. e ≡ Memory → IsOk (judged content))
 faulty content fault (Ok v) h k = tt
 faulty content fault (Err e) h k = λ m. absurd (not_memory content (let same : fault ≡ Memory = cc in cc))
