@@ -1,4 +1,4 @@
--- A vote is counted: who has a majority leads, and appends the blank entry in the same step.
+-- A vote is counted: a node with a majority leads, and appends the blank entry in the same step.
 use Rattle.std.proofs.Common.{◌≡◌, ℕ, Bool}
 use Rattle.std.proofs.lemmas.Bool.{cond_both}
 use Rattle.raft_log.specs.declared.message.Kind.TheVariants.{Vote}

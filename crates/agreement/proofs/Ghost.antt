@@ -1,4 +1,4 @@
--- What is known of the past beside the world, and what holds of both at each moment.
+-- What is known of the past besides the world, and what holds for both at each moment.
 use Rattle.std.proofs.Common.{◌≡◌, ℕ, suc, ◌<◌, ◌≤◌, Bool, true, false, List, [], ◌∷◌, ◌++◌, ◌⊎◌, Option, Some, None, length, take}
 use Rattle.raft_log.specs.declared.entry.Entry.{Entry}
 use Rattle.raft_log.specs.declared.message.Kind.{Kind}
@@ -29,7 +29,7 @@ module _ {B : Type 0} where
     pub rooted : (q : List (Entry B)) → Begins q log → Begins q (ledger (last_term q))
     pub upto : (q : List (Entry B)) → Begins q log → last_term q ≤ x
 
-  -- who was elected after t and before x began with p
+  -- each node that was elected after t and before x began with p
   pub record Carried (g : Ghost B) (t x : ℕ) (p : List (Entry B)) : Type 0 where
     pub by : (u d : ℕ) → t < u → u < x → g.owner u ≡ Some d → Begins p (g.runs u d)
 

@@ -14,7 +14,7 @@ use Rattle.agreement.proofs.Counts.{majorities_meet}
 use Rattle.agreement.proofs.Ghost.{Ghost, Sound, Carried, Fact, Chosen, GhostOk, KindOk, AllOk, CandidateOk, LeaderOk, RoleOk, NodeOk, Held}
 
 module _ {B : Type 0} where
-  -- what was chosen stands in the log of each later leader when it was elected
+  -- what was chosen is in the log of each later leader when it was elected
 
   pub complete : (n : ℕ) (g : Ghost B) (ok : GhostOk n g) (p : List (Entry B)) (ch : Chosen n g p) (fuel x c : ℕ) → x ≤ fuel → ch.term < x → g.owner x ≡ Some c → Begins p (g.runs x c)
   complete n g ok p ch zero x c le lt own = absurd (omega arith)

@@ -1,4 +1,4 @@
--- Steps that leave the ghost as it is.
+-- Steps that do not change the ghost.
 use Rattle.std.proofs.Common.{◌≡◌, ℕ, suc, pred, ◌<◌, ◌≤◌, true, ltb, List, [], ◌∷◌, ◌++◌, length, take, drop, map, refl, sym, subst, ◌∙◌, arith, take-append-drop, inl}
 use Rattle.std.proofs.lemmas.Bool.{cond_both, ltb-true}
 use Rattle.raft_log.specs.Batches.{batch_limit}

@@ -54,7 +54,7 @@ module _ {B : Type 0} where
             begins_trans p other log mine
             (begins_shorter other log (g.ledger (last_term log)) (subst (λ x. Begins other (g.ledger x)) (sym e) other_rooted) rooted le)
 
-  -- what was chosen stands in it: a node of the set is one of the majority that chose it
+  -- what was chosen is in it: a node of the set is one of the majority that chose it
   chosen_in : (n : ℕ) (g : Ghost B) (w : List (Node B)) (good : Good n g w) (b : ℕ) (t : Node B) (set : List Bool) → item w b ≡ Some t → IsMajority n set → IsAsUpToDateAs set w t.log
       → (p : List (Entry B)) → Chosen n g p → Begins p t.log
   chosen_in n g w good b t set at enough most p ch =

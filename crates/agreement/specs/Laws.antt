@@ -1,4 +1,4 @@
--- What holds over every list of events, whatever the upper layers do: the paper of Raft, Figure 3 and section 5.4.
+-- Laws over every list of events, whatever the upper layers do: the paper of Raft, Figure 3 and section 5.4.
 use Rattle.std.specs.Prelude.{◌≡◌, ◌⊎◌, ◌<◌, ◌≤◌, ℕ, suc, Bool, true, false, List, [], ◌∷◌, ◌++◌, length, take, replicate, Option, None, Some, if◌then◌else◌, nat_lt}
 use Rattle.raft_log.specs.declared.entry.Entry.{Entry}
 use Rattle.raft_log.specs.declared.role.Role.TheVariants.{Follower, Leader}
@@ -31,7 +31,7 @@ module _ {B : Type 0} where
   abbrev pub agreed : B → ℕ → List (Event B) → List (Entry B)
   agreed blank size es = longest_over blank es (start size)
 
--- of the committed entries of any two nodes at any two moments one list begins the other
+-- for the committed entries of any two nodes at any two moments one list begins the other
 abbrev pub OneList : (B : Type 0) → B → Type 0
 OneList B blank =
     (size : ℕ) (es : List (Event B)) (j k a b : ℕ) →
@@ -74,18 +74,18 @@ LogsMatch B blank =
     item (moment blank size es j) a ≡ Some s → item (moment blank size es k) b ≡ Some t →
     p ≤ length s.log → p ≤ length t.log → term_at s.log p ≡ term_at t.log p → take p s.log ≡ take p t.log
 
--- what a node commits stands in the log of each leader of a later term, whenever that leads
+-- what a node commits is in the log of each leader of a later term, whenever that leads
 abbrev pub LeadersHold : (B : Type 0) → B → Type 0
 LeadersHold B blank =
     (size : ℕ) (es : List (Event B)) (j k a b : ℕ) (s t : Node B) →
     item (moment blank size es j) a ≡ Some s → item (moment blank size es k) b ≡ Some t →
     t.role ≡ Leader → s.term < t.term → Begins (take s.commit s.log) t.log
 
--- a node is in a set, which says of each node, node 1's first, whether it is in it
+-- a node is in a set, which has a flag for each node, node 1's first
 abbrev pub IsIn : List Bool → ℕ → Type 0
 IsIn set node = item_or set node false ≡ true
 
--- more than half of the nodes of a group of so many are in this set
+-- more than half of the nodes of a group of this size are in this set
 abbrev pub IsMajority : ℕ → List Bool → Type 0
 IsMajority size set = (length set ≡ size) × (majority size set ≡ true)
 
@@ -95,7 +95,8 @@ IsAsUpToDateAs {B} set w log =
     (c : ℕ) (u : Node B) → IsIn set c → item w c ≡ Some u →
     up_to_date (last_term log) (length log) (last_term u.log) (length u.log) ≡ true
 
--- what a node commits, then or earlier, stands in the log of a node that is at least as up to date as that of each node of some majority
+-- what a node commits, then or earlier, is in the log of a node that is at least as up to date as that of each node of
+-- some majority
 abbrev pub UpToDateHolds : (B : Type 0) → B → Type 0
 UpToDateHolds B blank =
     (size : ℕ) (es : List (Event B)) (j k a b : ℕ) (s t : Node B) (set : List Bool) → j ≤ k →
@@ -128,12 +129,12 @@ module _ {B : Type 0} where
   brought [] = []
   brought (e ∷ es) = brings e ++ brought es
 
-  -- a body stands in a list
+  -- a body is in a list
   abbrev pub IsAmong : B → List B → Type 0
   IsAmong b [] = ⊥
   IsAmong b (c ∷ bodies) = (b ≡ c) ⊎ IsAmong b bodies
 
-  -- the body of each entry stands in a list
+  -- the body of each entry is in a list
   abbrev pub EachIn : List B → List (Entry B) → Type 0
   EachIn bodies [] = Unit {0}
   EachIn bodies (e ∷ es) = IsAmong e.body bodies × EachIn bodies es
@@ -143,7 +144,8 @@ abbrev pub AllBrought : (B : Type 0) → B → Type 0
 AllBrought B blank = (size : ℕ) (es : List (Event B)) → EachIn (blank ∷ brought es) (agreed blank size es)
 
 module _ {B : Type 0} where
-  -- a node that becomes a leader has a blank entry of its term behind its log, and the place of that as each next place
+  -- a node that becomes a leader has a blank entry of its term at the end of its log, and the place of that as each
+  -- next place
   pub record LeadsAnew (blank : B) (size : ℕ) (s led : Node B) : Type 0 where
     pub term_is : led.term ≡ s.term
     pub log_is : led.log ≡ s.log ++ record { term = s.term; body = blank } ∷ []
@@ -157,13 +159,13 @@ module _ {B : Type 0} where
     pub log_before : before.log ≡ s.log
     pub term_before : before.term ≡ s.term
 
--- so each act that makes a node a leader does, where its log is not full
+-- so does each act that makes a node a leader, if its log is not full
 abbrev pub LeadsWithBlank : (B : Type 0) → B → Type 0
 LeadsWithBlank B blank =
     (size i : ℕ) (a : Act B) (s : Node B) → (s.role ≡ Leader → ⊥) → (acted blank size i a s).role ≡ Leader →
     length s.log < entry_limit → LeadsAnew blank size s (acted blank size i a s)
 
--- where it is full the node leads without
+-- if it is full the node leads without
 abbrev pub FullLeads : (B : Type 0) → B → Type 0
 FullLeads B blank =
     (size i : ℕ) (a : Act B) (s : Node B) → (s.role ≡ Leader → ⊥) → (acted blank size i a s).role ≡ Leader →

@@ -1,5 +1,5 @@
--- A group of nodes that agree on a log by Raft, and what may happen to it. Of what stands above agreement only this is seen:
--- a step may set what the upper layers keep to anything, and a leader may append any body in it.
+-- A group of nodes that agree on a log by Raft, and what may happen to it. Of the layers above only this is seen: a
+-- step may set what they keep to anything, and a leader may append any body in it.
 use Rattle.std.specs.Prelude.{◌≡◌, ℕ, Bool, List, [], ◌∷◌, ◌++◌, length, take, replicate, Option, Some, None}
 use Rattle.raft_log.specs.declared.entry.Entry.{Entry}
 use Rattle.raft_log.specs.declared.message.Message.{Message}
@@ -52,7 +52,7 @@ module _ {B : Type 0} where
   adding s None = s
   adding s (Some body) = on_forward s body
 
-  -- what an act comes to
+  -- the result of an act
   abbrev pub acted : B → ℕ → ℕ → Act B → Node B → Node B
   acted blank size i Expires s = timed_out size i s
   acted blank size i Beats s = beat size i s
@@ -61,7 +61,7 @@ module _ {B : Type 0} where
   acted blank size i (Lifts applied live attempts adds) s = adding (lifted s applied live attempts) adds
   acted blank size i Nothing s = s
 
-  -- what happens to a node comes to this
+  -- the result of what happens to a node
   abbrev pub own : B → ℕ → ℕ → Own B → Node B → Node B
   own blank size i (Acts act) s = acted blank size i act s
   own blank size i Restarts s = restarted size s
@@ -112,7 +112,7 @@ module _ {B : Type 0} where
   own_of w (Restart i) = Restarts
   own_of w (StopIn x after) = Stops (act_of w x) after
 
-  -- the world with a node changed, where there is one
+  -- the world with a node changed, if there is one
   abbrev pub placed : List (Node B) → ℕ → (Node B → Node B) → Option (Node B) → List (Node B)
   placed w i f None = w
   placed w i f (Some s) = with_item w i (f s)
@@ -126,7 +126,7 @@ module _ {B : Type 0} where
   run blank [] w = w
   run blank (e ∷ es) w = run blank es (happens blank w e)
 
-  -- so many nodes over new stores
+  -- this many nodes over new stores
   abbrev pub start : ℕ → List (Node B)
   start size = replicate size (newborn size)
 

@@ -1,4 +1,4 @@
-//! What holds over every list of events of a group, for bodies of any type.
+//! Laws over every list of events of a group, for bodies of any type.
 ghost use Rattle.agreement.specs.Laws.{AgreedGrows, AllBrought, InAgreed, LeadersHold, LogsMatch};
 ghost use Rattle.agreement.specs.Laws.{OneLeader, OneList, OneRun, OneVote};
 ghost use Rattle.agreement.specs.Laws.{FullLeads, LeadsWithBlank, StopKeepsBlank, UpToDateHolds};
@@ -19,13 +19,13 @@ pub fn the_nodes_agree<B>()
 {}
 
 /// A node's log that is at least as up to date as that of each node of a majority holds all that any node committed: a
-/// majority saved that, and any two majorities share a node. From this log a group may go on where all stopped, or begin
-/// anew, also where the stores outside that majority are lost (section 5.4.1).
+/// majority saved that, and any two majorities share a node. From this log a group may go on after all nodes stopped,
+/// or begin anew, even if the stores outside that majority are lost (section 5.4.1).
 pub fn the_most_up_to_date_log_holds_all<B>()
     ensures { (blank : B) → UpToDateHolds B blank }
 {}
 
-/// Whatever makes a node a leader leaves a blank entry of its term behind its log, in the same step, so that a stop after
+/// Whatever makes a node a leader appends a blank entry of its term to its log, in the same step, so that a stop after
 /// that step keeps it. A full log takes none.
 pub fn a_new_leader_appends_a_blank_entry<B>()
     ensures leads { (blank : B) → LeadsWithBlank B blank }

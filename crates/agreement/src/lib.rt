@@ -1,6 +1,5 @@
-//! That the nodes of a group agree, by Raft, whatever stands above their logs.
-//! Stands under world_run and headline.
-//! Over every list of events, of any two committed lists one begins the other, and nothing is taken back.
+//! That the nodes of a group agree, by Raft, whatever their logs are used for. world_run and headline use it. Over
+//! every list of events, of any two committed lists one begins the other, and nothing is taken back.
 #![tactic(auto)]
 
 mod laws;

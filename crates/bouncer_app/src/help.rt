@@ -1,12 +1,12 @@
-//! What the program says of itself.
+//! What the program says about itself.
 
-/// How it is called, where it is called otherwise.
+/// How to call it, printed after a wrong call.
 pub const USAGE: &str =
     "usage: bouncer [init FOLDER [NICK [SERVER [CHANNEL..]]] | run CONFIG | check CONFIG | \
 renew CONFIG [--forget NAME].. | show JOURNAL [TARGET] [--all] | fold | world N | replay FILE | draw FILE | \
 help | --version]";
 
-/// What a person at a terminal is told who is to type the input.
+/// The prompt for a person at a terminal who is to type the input.
 pub const WAITING: &str =
     "bouncer: reads from the terminal until Ctrl-D; `bouncer help` says what it can do";
 

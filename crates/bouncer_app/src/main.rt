@@ -1,7 +1,6 @@
-//! `bouncer`: runs a bouncer; folds numbered commands into what its clients are shown, and runs events over
-//! its nodes, again too where they were recorded; shows what a journal holds, and begins a log anew.
-//! No crate stands on it. Its arguments, exit codes and standard error are tested; what its tasks do is promised by
-//! bouncer_run, journal_folder, fold_app, world_app and chat_log.
+//! `bouncer`: runs a bouncer; folds numbered commands into what its clients are shown; runs events over its nodes, and
+//! reruns recorded ones; shows what a journal holds, and begins a log anew. Its arguments, exit codes and standard
+//! error are tested; what its tasks do is promised by bouncer_run, journal_folder, fold_app, world_app and chat_log.
 #![tactic(auto)]
 
 mod help;
@@ -28,7 +27,8 @@ use std::process::ExitCode;
 use std::rt::Runtime;
 use world_app::world;
 
-/// The exit code where a record differs from a run of its events.
+/// The exit code if a record differs from a run of its events.
+// 1 is for faults, 2 for wrong calls
 const DIFFERS: u8 = 3;
 
 /// Folds standard input. The exit code is 0, or 1 with the fault on standard error.
@@ -41,8 +41,8 @@ fn run_fold(rt: &HostRuntime) -> ExitCode {
     }
 }
 
-/// Runs the events of standard input over so many nodes. The exit code is 0, or 1 with the fault on
-/// standard error.
+/// Runs the events of standard input over this many nodes. The exit code is 0, or 1 with the fault
+/// on standard error.
 fn run_world(rt: &HostRuntime, size: u32) -> ExitCode {
     let mut input = rt.reader();
     tell_waiting(rt, &input);
@@ -52,8 +52,8 @@ fn run_world(rt: &HostRuntime, size: u32) -> ExitCode {
     }
 }
 
-/// Runs what is recorded in a file again. The exit code is 0 where the same comes out, 3 where it does not,
-/// or 1 with the fault on standard error.
+/// Reruns what is recorded in a file. The exit code is 0 if the same comes out, 3 if it does not, or 1 with the fault
+/// on standard error.
 fn run_replay(rt: &HostRuntime, path: &str) -> ExitCode {
     match replay(rt, path) {
         Ok(Verdict::Same) => ExitCode::SUCCESS,
@@ -120,7 +120,8 @@ fn run_init(rt: &HostRuntime, folder: &str, words: Vec<String>) -> ExitCode {
     }
 }
 
-/// Writes a first configuration into a folder: of these words, or, where there are none, of what standard input answers.
+/// Writes a first configuration into a folder, from these words, or, if there are none, from the answers on standard
+/// input.
 fn init(rt: &HostRuntime, folder: &str, words: Vec<String>) -> Result<Written, InitFault> {
     let answers = if words.is_empty() {
         ask(rt, &mut rt.reader())?
@@ -147,13 +148,13 @@ fn told<T: Display>(rt: &HostRuntime, line: &T) -> ExitCode {
     }
 }
 
-/// Tells a fault. Where standard error takes nothing, the exit code tells it alone.
+/// Reports a fault. If standard error fails too, only the exit code reports it.
 fn failed<F: Display + Drop>(rt: &impl Runtime, fault: F) -> ExitCode {
     let _ = eprintln!(rt; "bouncer: {fault}");
     ExitCode::FAILURE
 }
 
-/// Tells how the program is called.
+/// Prints how to call the program.
 fn usage(rt: &HostRuntime) -> ExitCode {
     let _ = eprintln!(rt; "{USAGE}");
     ExitCode::from(2)

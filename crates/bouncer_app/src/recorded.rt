@@ -1,5 +1,5 @@
-//! What `bouncer replay` and `bouncer draw` do with the record in a file. Where the file is at fault, a line is written
-//! to standard error that names it and says why.
+//! What `bouncer replay` and `bouncer draw` do with the record in a file. If the file is at fault, a line is written to
+//! standard error that names it and says why.
 use records::{ReplayFault, Verdict};
 use std::alloc::Global;
 use std::fs::File;
@@ -9,7 +9,7 @@ use std::{fs, io};
 use whole_input::read_whole;
 use world_app::{RecordFault, draw, replay_record};
 
-/// Runs what is recorded in a file again, and prints whether the same comes out.
+/// Reruns what is recorded in a file, and prints whether the same comes out.
 pub fn replay(
     rt: &(impl Runtime<File = File> + AllocGlobal),
     path: &str,
@@ -44,7 +44,7 @@ pub fn print_picture(
     Ok(())
 }
 
-/// The picture of the record that an input has.
+/// The picture of the record in an input.
 fn drawn<R: Read>(alloc: Global, input: &mut R) -> Result<Vec<u8>, RecordFault> {
     let record = read_whole(alloc, input)?;
     Ok(draw(alloc, &record)?)

@@ -17,7 +17,7 @@ pub enum ShowFault {
     NotAStore,
     #[error("Version")]
     Version,
-    /// The record at this place, from 0, is none.
+    /// The record at this place, from 0, is damaged.
     #[error("Damaged {0}")]
     Damaged(u64),
     #[error("Write")]
@@ -38,8 +38,8 @@ impl From<StoreFault> for ShowFault {
     }
 }
 
-/// Prints the chat of the journal in a file: of an extent all, or what concerns a target. The file is read once and left
-/// as it is. Where it is at fault, a line was written to standard error that names it and says why.
+/// Prints the chat of the journal in a file: of an extent all, or what concerns a target. The file is read once and not
+/// changed. If it is at fault, a line is written to standard error that names it and says why.
 pub fn show(
     rt: &(impl Runtime + AllocGlobal),
     path: &str,
@@ -61,7 +61,7 @@ pub fn show(
     Ok(())
 }
 
-/// The bytes of a journal's file. Where it can't be read, a line was written to standard error that names it and says why.
+/// The bytes of a journal's file. If it can't be read, a line is written to standard error that names it and says why.
 fn read_journal(rt: &(impl Runtime + AllocGlobal), path: &str) -> Result<Vec<u8>, ShowFault> {
     match fs::read(rt, path) {
         Ok(journal) => Ok(journal),
@@ -73,7 +73,7 @@ fn read_journal(rt: &(impl Runtime + AllocGlobal), path: &str) -> Result<Vec<u8>
     }
 }
 
-/// Says on standard error what is wrong with a file, unless memory was wanting.
+/// Says on standard error what is wrong with a file, unless memory ran out.
 fn tell(rt: &impl Runtime, path: &str, fault: StoreFault) {
     let _ = match fault {
         StoreFault::NotAStore => eprintln!(rt; "{path}: is no journal"),

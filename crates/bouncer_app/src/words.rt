@@ -1,4 +1,4 @@
-//! What the words behind the program's name ask for.
+//! What the words after the program's name ask for.
 use chat_log::Extent;
 use irc_line::Name;
 use std::alloc::{AllocError, Global};
@@ -10,32 +10,31 @@ use world_app::size_of;
 #[derive(Drop)]
 pub enum Task {
     Fold,
-    /// To run events over so many nodes.
+    /// To run events over this many nodes.
     World(u32),
-    /// To run what is recorded in the file of this path again.
+    /// To rerun what is recorded in the file of this path.
     Replay(String),
     /// To draw the run that is recorded in the file of this path.
     Draw(String),
     /// To show the journal in the file of this path: of an extent all, or what concerns a target.
     Show(String, Extent, Option<Name>),
-    /// To run the bouncer that the configuration in the file of this path says.
+    /// To run the bouncer with the configuration in the file of this path.
     Run(String),
     /// To say what that run would do.
     Check(String),
     /// To begin the log of that bouncer anew, without these names of clients.
     Renew(String, Vec<Name>),
-    /// To write a first configuration into the folder of this path: of these words, or, where there are none, of what
-    /// is answered.
+    /// To write a first configuration into the folder of this path, from these words, or, if there are none, from
+    /// answers.
     Init(String, Vec<String>),
     Help,
     Version,
 }
 
-/// What the words, the program's name first, ask for: a fold where none follows, or `fold` alone; the
-/// events of a world where `world` and a number follow; a record's where `replay` and a path do, and its picture
-/// where `draw` and a path do; a journal's chat where `show` and a path do, and behind it a name, `--all` or both; a
-/// bouncer's run, a check of its configuration, or a new log, where `run`, `check` or `renew` and a path do; a first
-/// configuration where `init` and a folder do.
+/// What the words, the program's name first, ask for: a fold after none or `fold` alone; the events of a world after
+/// `world` and a number; a rerun after `replay` and a path, a picture after `draw` and a path; a journal's chat after
+/// `show` and a path, and then a name, `--all` or both; a bouncer's run, a check of its configuration, or a new log,
+/// after `run`, `check` or `renew` and a path; a first configuration after `init` and a folder.
 pub fn asked(alloc: Global, words: Args) -> Result<Option<Task>, AllocError> {
     let mut words = words.skip(1);
     match words.next() {
@@ -66,7 +65,7 @@ fn task_of(word: &str, mut words: Skip<Args>) -> Option<Task> {
     Some(task)
 }
 
-/// A renewal, where a path follows, and behind it names of clients, each behind `--forget`.
+/// A renewal, if a path follows, and then names of clients, each after `--forget`.
 fn renewal(alloc: Global, mut words: Skip<Args>) -> Result<Option<Task>, AllocError> {
     let Some(path) = words.next() else {
         return Ok(None);
@@ -90,7 +89,7 @@ fn renewal(alloc: Global, mut words: Skip<Args>) -> Result<Option<Task>, AllocEr
     Ok(Some(Task::Renew(path, forgotten)))
 }
 
-/// A first configuration, where a folder follows, and behind it what it is to say, or nothing.
+/// A first configuration, if a folder follows, and then what it is to say, or nothing.
 fn beginning(alloc: Global, mut words: Skip<Args>) -> Result<Option<Task>, AllocError> {
     let Some(folder) = words.next() else {
         return Ok(None);
@@ -102,7 +101,7 @@ fn beginning(alloc: Global, mut words: Skip<Args>) -> Result<Option<Task>, Alloc
     Ok(Some(Task::Init(folder, answers)))
 }
 
-/// The chat of a journal, where a path follows, and behind it no more than a name and `--all`, in any order.
+/// The chat of a journal, if a path follows, and then no more than a name and `--all`, in any order.
 fn showing(mut words: Skip<Args>) -> Option<Task> {
     let path = words.next()?;
     let mut extent = Extent::Chat;

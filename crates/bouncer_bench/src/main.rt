@@ -1,7 +1,7 @@
 //! `bouncer_bench ether ROUNDS` and `bouncer_bench queue ROUNDS`: two threads trade messages, over an ether or over a
-//! queue under a lock, and nothing is written. `bouncer_bench save PATH COUNT` opens the journal of a path and saves so
-//! many entries, one at a time; `bouncer_bench read PATH` opens it; either prints how many entries stand then.
-//! `bench/ether` and `bench/save` time them. No crate stands on it. It measures, and promises nothing.
+//! queue under a lock, and nothing is written. `bouncer_bench save PATH COUNT` opens the journal of a path and saves
+//! that many entries, one at a time; `bouncer_bench read PATH` opens it; both print how many entries it then has.
+//! `bench/ether` and `bench/save` time them. It measures, and promises nothing.
 #![tactic(auto)]
 
 mod fault;
@@ -34,9 +34,9 @@ enum Way {
 /// What is asked for.
 #[derive(Drop)]
 enum Task {
-    /// So many rounds of each thread.
+    /// This many rounds of each thread.
     Trade(Way, u64),
-    /// So many saves in the journal of a path.
+    /// This many saves in the journal of a path.
     Save(String, u32),
 }
 
@@ -71,13 +71,13 @@ fn trade<R: Threads + Wait + Sync>(
     Ok(())
 }
 
-/// Saves in a journal, and prints how many entries stand then.
+/// Saves in a journal, and prints how many entries it then has.
 fn saved(rt: &HostRuntime, path: &str, count: u32) -> Result<(), BenchFault> {
     let stand = save(rt, path, count)?;
     println!(rt; "{stand}").map_err(|_| BenchFault::Write)
 }
 
-/// Tells a fault on standard error.
+/// Reports a fault on standard error.
 fn ended(rt: &HostRuntime, done: Result<(), BenchFault>) -> ExitCode {
     match done {
         Ok(()) => ExitCode::SUCCESS,

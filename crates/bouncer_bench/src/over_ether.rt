@@ -35,7 +35,7 @@ pub fn vote<B: Wire>(from: u8, to: u8) -> Envelope<B>
     }
 }
 
-/// Posts a message and takes one in turn, so many times. Gives how many came.
+/// Posts a message and takes one in turn, this many times. Returns how many came.
 fn trade<M: Hosted>(
     ether: &Ether<M>,
     pass: &mut Pass<M::Command, M::Line, M::Target>,
@@ -146,7 +146,7 @@ fn last_pass(ether: &ToyEther, passes: &mut Vec<ToyPass>) -> Result<ToyPass, Tra
     }
 }
 
-/// So many posts and so many takes of each of two threads. Gives how many messages came.
+/// This many posts and takes of each of two threads. Returns how many messages came.
 pub fn trade_over_ether<R: Threads>(rt: &R, alloc: Global, rounds: u64) -> Result<u64, TradeFault> {
     let (ether, one, two) = two_of_three(alloc)?;
     let one = seated(alloc, &ether, one, 2, rounds)?;

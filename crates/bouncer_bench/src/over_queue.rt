@@ -38,7 +38,7 @@ impl<'a, R: Wait + Sync> Task for Side<'a, R> {
     }
 }
 
-/// So many posts and so many takes of each of two threads. Gives how many messages came.
+/// This many posts and takes of each of two threads. Returns how many messages came.
 pub fn trade_over_queue<R: Threads + Wait + Sync>(
     rt: &R,
     alloc: Global,

@@ -8,7 +8,7 @@ use stable_store::{Change, Stable, StoreFault};
 use std::alloc::{AllocError, Global};
 use wire_bytes::Number;
 
-/// One entry behind so many.
+/// One entry after this many.
 fn change(alloc: Global, place: u64) -> Result<Change<u8>, AllocError>
     requires { place < number_limit }
 {
@@ -18,7 +18,8 @@ fn change(alloc: Global, place: u64) -> Result<Change<u8>, AllocError>
     Ok(Change::new(term, term, None, Number::new(place), entries))
 }
 
-/// Opens the journal of a path and saves so many entries, one at a time. Gives how many stand then.
+/// Opens the journal of a path and saves this many entries, one at a time. Returns how many it then
+/// has.
 pub fn save(rt: &HostRuntime, path: &str, count: u32) -> Result<u64, OpenFault> {
     let alloc = rt.alloc();
     let mut store: FileJournal<u8> = open_journal(rt, alloc, path, &Log::new(alloc))?;

@@ -7,7 +7,7 @@ use std::thread::{Threads, join};
 pub trait Task: Drop + Send {
     ghost can_run: { Self → Type 0 };
 
-    /// Gives how many messages came.
+    /// Returns how many messages came.
     fn run(self) -> Result<u64, AllocError>
         requires { can_run self };
 }

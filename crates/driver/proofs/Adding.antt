@@ -1,4 +1,4 @@
--- What is written to clients, what goes to the server, and effects that pass, as orders that are all of one kind.
+-- What is written to clients, what goes to the server, and effects that pass, as orders of one kind.
 use Rattle.std.proofs.Common.{◌≡◌, ◌∙◌, ◌++◌, ℕ, Bool, true, false, List, [], ◌∷◌, Option, Some, None, refl, sym, ap, subst}
 use Rattle.std.specs.Global.{Vec}
 use Rattle.std.specs.BTreeMap.{keys}
@@ -35,7 +35,7 @@ use Rattle.driver.specs.Telling.{Ordered, ordered}
 use Rattle.driver.proofs.Growing.{AllAre, AllGood, Good, Grows, all_append, by_number, good_as, grows_both, one_grows, or_this, same_grows}
 use Rattle.driver.proofs.Owning.{hears_own}
 
--- More is ordered, all of it so.
+-- More is ordered, all of this kind.
 pub record Adds (P : Order → Type 0) (before after : Ordered) : Type 0 where
   pub told : List Order
   pub orders : after ≡ ordered before told
@@ -63,7 +63,7 @@ adds_both P before between after first last = record {
   all = all_append P first.told last.told first.all last.all;
 }
 
--- where the clients stay
+-- if the clients stay
 pub adds_grow : (P : Order → Type 0) (old new : Told) → AllGood P old.clients → new.clients ≡ old.clients → Adds P old.orders new.orders → Grows P old new
 adds_grow P old new good same adds = record {
   told = adds.told;
@@ -94,7 +94,7 @@ all_written_add P (number ∷ numbers) clients text before after good (behind, f
     (written_adds P clients number (client_at clients number) text before behind refl good first)
     (all_written_add P numbers clients text behind after good more)
 
--- Clients that have a channel open are put out of it.
+-- Clients that have a channel open are kicked from it.
 
 kicked_good : (P : Order → Type 0) (channel : List ℕ) (number : ℕ) (c : Client) (old new : Clients) → AllGood P old → AreOthersSame number old new → Good P c → client_at new number ≡ Some (record c { channels = closed channel c.channels }) → AllGood P new
 kicked_good P channel number c old new good others here is n d found =
@@ -143,7 +143,7 @@ heard_by : (P : Order → Type 0) (now : ℕ) (at : Moment) (nick : List ℕ) (o
 heard_by P now at nick origin effect None old new is good h = same_grows P old new good (h.nobody is)
 heard_by P now at nick origin effect (Some c) old new is good h = heard_of P now at nick origin effect c (same_origin c.origin origin) old new is refl good h
 
--- A client that the buffers close is told why.
+-- A client that the buffers close gets the reason.
 
 why_adds : (P : Order → Type 0) (why : Option Eviction) (c : Client) (before after : Ordered) → Good P c → IsToldWhy why c before after → Adds P before after
 unfolding AllAre

@@ -62,7 +62,7 @@ among_as xs ys zs is some = subst (λ (all : List ℕ). AreAmong xs all) is some
 pub from_as : (xs ys zs : List ℕ) → ys ≡ xs → AreAmong xs zs → AreAmong ys zs
 from_as xs ys zs is some = subst (λ (all : List ℕ). AreAmong all zs) (sym is) some
 
--- what waits behind two stretches was among what waited first, or was told in one of them
+-- what waits after two stretches was waiting at first, or was sent in one of them
 pub among_both : (w w1 w2 t1 t2 : List ℕ) → AreAmong w1 (w ++ t1) → AreAmong w2 (w1 ++ t2) → AreAmong w2 (w ++ (t1 ++ t2))
 among_both w w1 w2 t1 t2 first last =
     among_as w2 ((w ++ t1) ++ t2) (w ++ (t1 ++ t2)) (append_assoc w t1 t2)
@@ -134,7 +134,7 @@ pub refused_waiting : (s : Settings) (calls : List Call) → waiting_of s (Refus
 unfolding gate
 refused_waiting s calls = refl
 
--- a gate that is ended waits for what the parting tells
+-- a gate that is ended waits for what the parting sends
 pub ended_told : (gone attached : Bool) (s : Settings) (calls : List Call) (origin : Origin) (at : Moment) → AreAmong (waiting_of s (ended gone calls)) (waiting_of s calls ++ numbers_told (parting_unless gone attached origin at (last_request (gate s calls))))
 ended_told true attached s calls origin at = among_left (waiting_of s calls) _
 ended_told false attached s calls origin at =

@@ -20,7 +20,7 @@ use Rattle.driver.specs.Telling.{Ordered}
 use Rattle.driver.proofs.Adding.{Adds, adds_both, nothing_adds, written_if}
 use Rattle.driver.proofs.Growing.{AllAre, or_this}
 
--- what is written to the client that was found is so
+-- what is written to the client that was found is of this kind
 abbrev pub Fits : (Order → Type 0) → Option Client → Type 0
 Fits P found = (c : Client) → found ≡ Some c → (line : Vec ℕ) → P (Write c.origin.2 line)
 
@@ -93,7 +93,7 @@ pub answers_add_if : (P : Order → Type 0) (attached : Bool) (words : List Stat
 answers_add_if P false words now number old new fits same = nothing_adds P old.orders new.orders (ap (λ (driver : Driver). driver.orders) same)
 answers_add_if P true words now number old new fits all = answers_add P words now number old new fits all
 
--- Nothing waits where nothing did.
+-- Nothing waits if nothing did.
 
 left_empty : (waits : Bool) (waiting : Waiting) → waiting ≡ nothing_waits → waiting_left waits waiting ≡ nothing_waits
 left_empty true waiting is = ap without_said is
@@ -117,7 +117,7 @@ pub answers_empty_if : (attached : Bool) (words : List StatusWord) (now number :
 answers_empty_if false words now number old new same is = ap (λ (driver : Driver). driver.link.waiting) same ∙ is
 answers_empty_if true words now number old new all is = answers_empty words now number old new all is
 
--- Of words the first of which is DROP WAITING, or none.
+-- Words of which DROP WAITING is the first, or none is.
 
 abbrev most : ℕ
 most = 2 ^ 64 - 1
@@ -132,7 +132,7 @@ word_just word.Status now number old new a = a.rest
 word_just word.Clients now number old new a = a.rest
 word_just word.DropWaiting now number old new a = a.drops
 
--- orders alone change, and then what waits is dropped
+-- only orders change, and then what waits is dropped
 later_drop : (old behind new : Driver) → behind ≡ record old { orders = behind.orders } → DropsSaid behind new → DropsSaid old new
 later_drop old behind new same d =
     let e : DropsSaid (record old { orders = behind.orders }) new = subst (λ (driver : Driver). DropsSaid driver new) same d in
@@ -142,7 +142,7 @@ later_drop old behind new same d =
       rest = e.rest;
     }
 
--- what waits is dropped, and so is what waits then
+-- what waits is dropped, and then what waits after that is too
 drops_twice : (old behind new : Driver) (first last : Bool) → MayWait old first → behind ≡ dropped_as first behind old → MayWait behind last → new ≡ dropped_as last new behind → DropsSaid old new
 drops_twice old behind new false last may is also more =
     let e : DropsSaid (record old { orders = behind.orders }) new =

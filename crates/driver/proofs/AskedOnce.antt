@@ -1,4 +1,4 @@
--- What orders tell of a client's requests, and that its gate numbers just that.
+-- The requests of a client in orders are those that its gate numbers.
 use Rattle.std.proofs.Common.{◌≡◌, ◌∙◌, ◌++◌, ℕ, Bool, true, false, ◌||◌, List, [], ◌∷◌, Option, Some, None, refl, sym, ap, subst}
 use Rattle.std.specs.Prelude.{option_to_list, if◌then◌else◌}
 use Rattle.std.specs.Global.{Vec}
@@ -26,11 +26,11 @@ use Rattle.driver.specs.Serving.{HasPassed, IsCutOff, IsParted, ended, ended_if}
 use Rattle.driver.specs.Telling.{Ordered, ordered}
 use Rattle.driver.proofs.Cycling.{numbers_kept}
 
--- what orders tell, and those behind them
+-- the requests in orders, and in those after them
 pub told_append : (xs ys : List Order) → numbers_told (xs ++ ys) ≡ numbers_told xs ++ numbers_told ys
 told_append xs ys = flat_map-append number_told xs ys
 
--- the requests of a client, as they are told
+-- the requests of a client, as they are sent
 pub told_asks : (origin : Origin) (at : Moment) (requests : List Request) → numbers_told (asks_of origin at requests) ≡ numbers_of requests
 unfolding asks_of
 told_asks origin at [] = refl
@@ -48,7 +48,7 @@ told_all attached origin at (request ∷ requests) =
     ∙ ap (λ numbers. numbers ++ numbers_told (asks_of origin at (request ∷ requests))) (told_welcome attached origin)
     ∙ told_asks origin at (request ∷ requests)
 
--- as they are told to the node
+-- as they are sent to the node
 pub told_by : (c : Client) (at : Moment) (requests : List Request) → numbers_told (asked_by c at requests) ≡ numbers_of requests
 told_by c at requests =
     told_all c.is_attached c.origin at (reworded c.channels c.parting requests) ∙ numbers_kept c.channels c.parting requests
@@ -68,7 +68,7 @@ told_last true origin at (Some request) = refl
 told_last false origin at None = refl
 told_last false origin at (Some request) = refl
 
--- a gate that is ended numbers what the parting tells
+-- a gate that is ended numbers what the parting sends
 pub ended_once : (gone attached : Bool) (s : Settings) (calls : List Call) (origin : Origin) (at : Moment) → numbers_of (all_requests s (ended gone calls)) ≡ numbers_of (all_requests s calls) ++ numbers_told (parting_unless gone attached origin at (last_request (gate s calls)))
 unfolding all_requests parting_unless
 ended_once true attached s calls origin at = sym (append-nil (numbers_of (all_requests s calls)))
@@ -76,12 +76,12 @@ ended_once false attached s calls origin at =
     map-append (λ (request : Request). request.number) (all_requests s calls) (option_to_list (last_request (gate s calls)))
     ∙ ap (λ numbers. numbers_of (all_requests s calls) ++ numbers) (sym (told_last attached origin at (last_request (gate s calls))))
 
--- where it is closed
+-- if it is closed
 closed_once : (close gone attached : Bool) (s : Settings) (calls : List Call) (origin : Origin) (at : Moment) → numbers_of (all_requests s (ended_if close gone calls)) ≡ numbers_of (all_requests s calls) ++ numbers_told (if close then parting_unless gone attached origin at (last_request (gate s calls)) else [])
 closed_once false gone attached s calls origin at = sym (append-nil (numbers_of (all_requests s calls)))
 closed_once true gone attached s calls origin at = ended_once gone attached s calls origin at
 
--- what a gate answered is told, where it numbered just that
+-- what a gate answered is sent, if it numbered exactly that
 numbered_once : (s : Settings) (calls : List Call) (c : Client) (at : Moment) (fed : Fed) (earlier : List ℕ) → numbers_of (all_requests s calls) ≡ earlier ++ numbers_of fed.requests.items → numbers_of (all_requests s (ended_if (is_cut fed) c.is_gone calls)) ≡ earlier ++ numbers_told (passed c at (last_request (gate s calls)) fed)
 numbered_once s calls c at fed earlier is =
     let bytes = written c.is_gone c.origin.2 fed.reply in
@@ -115,7 +115,7 @@ none_by : (b : Bool) (first other : Given) → first.requests ≡ [] → other.r
 none_by true first other own none = own
 none_by false first other own none = none
 
--- what comes of a request asks for nothing
+-- an effect of a request asks for nothing
 pub hear_asks_none : (s : Settings) (e : GateEffect) → (given_effect s e).requests ≡ []
 hear_asks_none s (answer.Effect (claims.Inner (fence.Inner (effect.Close o)))) = none_by (same_origin s.origin o) _ _ refl refl
 hear_asks_none s (answer.Effect (claims.Inner (fence.Inner (effect.Show o x)))) = none_by (same_origin s.origin o) _ _ refl refl
@@ -139,7 +139,7 @@ refused_numbers : (s : Settings) (calls : List Call) → numbers_of (all_request
 unfolding all_requests
 refused_numbers s calls = ap (λ (requests : List Request). numbers_of requests) (append-nil (all_requests s calls))
 
--- it is parted from
+-- it is closed
 pub parted_once : (s : Settings) (calls behind : List Call) (at : Moment) (c new : Client) (before after : Ordered) → numbers_of (all_requests s behind) ≡ numbers_of (all_requests s calls) → IsParted at s behind c before new after → TellsOnce s calls before new after
 parted_once s calls behind at c new before after same h =
     let told = parting_unless c.is_gone c.is_attached c.origin at (last_request (gate s behind)) in
@@ -154,7 +154,7 @@ parted_once s calls behind at c new before after same h =
 pub cut_once : (s : Settings) (calls : List Call) (at : Moment) (c new : Client) (before after : Ordered) → IsCutOff s calls at c before new after → TellsOnce s calls before new after
 cut_once s calls at c new before after h = parted_once s calls (Refused ∷ calls) at c new before after (refused_numbers s calls) h
 
--- nothing came of it
+-- nothing changed
 pub nothing_once : (s : Settings) (calls : List Call) (old new : Client) (before after : Ordered) → Stands s calls old.gate → new ≡ old → after ≡ before → TellsOnce s calls before new after
 nothing_once s calls old new before after stands same none = record {
   behind = calls;
@@ -164,7 +164,7 @@ nothing_once s calls old new before after stands same none = record {
   once = sym (append-nil (numbers_of (all_requests s calls)));
 }
 
--- what is told first, and then
+-- what is sent first, and then
 pub both_once : (s : Settings) (calls : List Call) (before between after : Ordered) (client new : Client) → (first : TellsOnce s calls before client between) → TellsOnce s first.behind between new after → TellsOnce s calls before new after
 both_once s calls before between after client new first last = record {
   behind = last.behind;

@@ -1,4 +1,4 @@
--- Each request of a client is told once, where nothing is asked again.
+-- Each request of a client is sent once, if nothing is sent again.
 use Rattle.std.proofs.Common.{◌≡◌, ◌∙◌, ◌++◌, ℕ, Bool, true, false, List, [], ◌∷◌, Option, Some, None, refl, sym, ap, subst, ⊎_elim}
 use Rattle.std.specs.Prelude.{option_to_list}
 use Rattle.std.proofs.lemmas.List.{append_assoc, append-nil, map-append}
@@ -27,12 +27,12 @@ use Rattle.driver.specs.Silence.{IsKept, IsPing, IsSentOff, held_back, is_silent
 use Rattle.driver.specs.Telling.{Ordered, ordered}
 use Rattle.driver.proofs.AskedOnce.{both_once, cut_once, ended_once, feed_numbers, hear_numbers, nothing_once, parted_once, passed_once, told_append, told_by}
 
--- it is parted from where this is so
+-- it is closed if this is so
 parts_once : (parts : Bool) (at : Moment) (s : Settings) (calls : List Call) (old new : Client) (before after : Ordered) → Stands s calls old.gate → PartsIf parts at s calls old before new after → TellsOnce s calls before new after
 parts_once false at s calls old new before after stands (same, none) = nothing_once s calls old new before after stands same none
 parts_once true at s calls old new before after stands h = parted_once s calls calls at old new before after refl h
 
--- what a gate answered went on, or is kept back
+-- what a gate answered went on, or is held back
 takes_once : (wrong : Bool) (answer : Given) (now : ℕ) (at : Moment) (due : ℕ) (s : Settings) (calls behind : List Call) (fed : Fed) (c new : Client) (before after : Ordered) → numbers_of (all_requests s behind) ≡ numbers_of (all_requests s calls) ++ numbers_of answer.requests → given_in fed ≡ answer → TakesBy wrong s behind fed now at due c before new after → TellsOnce s calls before new after
 takes_once false answer now at due s calls behind fed c new before after more is (orders, stands) =
     passed_once s calls behind answer now at c new before after more (record { fed = fed; is = is; orders = orders; stands = stands })

@@ -16,7 +16,7 @@ use Rattle.driver.proofs.Keeping.{Sound}
 use Rattle.driver.proofs.Moves.{Core, Found, core}
 use Rattle.driver.proofs.OneClaim.{outcome}
 
--- A node waits so, as is known of it.
+-- A node waits like this, by what is known of it.
 pub record Waits (n : ℕ) (W : Core → Type 0) (settings : Settings) (driver : Driver) : Type 0 where
   pub own : NodeMonitor
   pub is : slice_get driver.monitors (n - 1) ≡ Some own
@@ -31,7 +31,7 @@ found_waits n W settings d new goes_by f w = record {
   goes_by = goes_by;
 }
 
--- A call orders it, or the node waits on and time did not pass to the moment.
+-- A call orders it, or the node waits on and time has not passed to the moment.
 abbrev pub Comes : ℕ → (Core → Type 0) → (Order → Bool) → ℕ → Settings → Call → List Order → Driver → Type 0
 Comes n W is moment settings call told new = (list_any is told ≡ true) ⊎ ((ticks_by moment call ≡ false) × Waits n W settings new)
 

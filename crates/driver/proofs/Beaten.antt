@@ -1,4 +1,4 @@
--- A leader is told to send in time.
+-- A leader is asked to send in time.
 use Rattle.std.proofs.Common.{◌≡◌, ◌∙◌, ◌⊎◌, inl, inr, ℕ, ◌+◌, ◌-◌, ◌<◌, ◌≤◌, Bool, true, false, List, Option, Some, None, refl, sym, ap, subst, ⊎_elim, arith}
 use Rattle.std.specs.Prelude.{◌&&◌, if◌then◌else◌, is_some, max, min, nat_le}
 use Rattle.std.specs.List.{list_any}
@@ -106,7 +106,7 @@ heard_due n moment beat_ms now told status progress d so w =
     (leads_none status.role status.down so) w.id refl so
     (further d.beat.note d.progress.done (min progress.done told) w.done) w.in_time
 
--- what the clock tells it
+-- the note that the clock sends it
 pub note_leader : (d : NodeMonitor) (settings : Settings) (now : ℕ) (status : Status) → d.status ≡ Some status → d.down ≡ None → leads status ≡ true → note_at d settings now ≡ (if is_to_beat d settings now then Some note.Beat else None)
 unfolding note_for note_up
 note_leader d settings now status is up leader =
@@ -179,7 +179,7 @@ advance n moment settings call told d old new goes_by w fit is (Passed now ran t
     tick_comes n moment now settings call told new (ticks moment)
     (clock_due n moment now settings (woken old now d) old new told c (woken_due n moment settings.beat_ms now old d w) (ap (λ (b : Base). b.settings) t.based ∙ goes_by) (given told is))
 
--- where it begins
+-- at the beginning
 
 pub none_is : (down : Option Outage) → is_some down ≡ false → down ≡ None
 none_is None so = refl

@@ -1,4 +1,4 @@
--- A leader is told to send in time where it reports that it did what it was told before.
+-- A leader is asked to send in time if it reports that it did all earlier notes.
 use Rattle.std.proofs.Common.{◌≡◌, ◌∙◌, ◌⊎◌, ℕ, ◌+◌, ◌-◌, ◌≤◌, Bool, true, false, List, [], ◌∷◌, Some, refl, sym, ap, subst, slice_get, ⊎_elim}
 use Rattle.std.specs.Prelude.{◌&&◌, ◌||◌, if◌then◌else◌, is_some, nat_eq, nat_le}
 use Rattle.std.specs.List.{list_all}
@@ -34,7 +34,7 @@ use Rattle.driver.proofs.OneClaim.{outcome}
 use Rattle.driver.proofs.Staying.{is_down_so}
 use Rattle.driver.proofs.BeatsDue.{IsLeading, advance, all_in, done_by, heard_leading, heard_progress, leading_due, woken_leading}
 
--- A report by which it did so much.
+-- A report that it did all notes up to this one.
 record OwnReport (n number : ℕ) (call : Call) (old new : Driver) : Type 0 where
   now : ℕ
   moment : Moment
@@ -90,7 +90,7 @@ own_report n number (WatchPasswords now) old new is does = absurd (cc is)
 own_report n number (Refuse client) old new is does = absurd (cc is)
 own_report n number Take old new is does = absurd (cc is)
 
--- Behind it the next beat is due.
+-- After it the next beat is due.
 report_due : (n number moment : ℕ) (settings : Settings) (call : Call) (told : List Order) (d : NodeMonitor) (old new : Driver) → 1 ≤ n → Sound n old → slice_get old.monitors (n - 1) ≡ Some d → old.settings ≡ settings → IsLeading n number moment settings.beat_ms (core d) → Counted n (in_all old.orders) → number ≤ all_of n old → tells_only tells_leading n call ≡ true → IsTold call told old.orders new.orders → (r : OwnReport n number call old new) → Ticks n moment settings.beat_ms settings told r.now new
 report_due n number moment settings call told d old new low sound found goes_by w counted most fit is r =
     let h = hear_clocks n r.now r.moment r.status r.effects r.progress r.refused d old new low sound found r.hears in

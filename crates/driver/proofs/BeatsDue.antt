@@ -29,7 +29,7 @@ use Rattle.driver.proofs.Moves.{Base, Core, core, hastened_by}
 use Rattle.driver.proofs.Noted.{both_below}
 use Rattle.driver.proofs.Restarted.{none_behind}
 
--- A node leads, its last beat has no greater number than this, and the next is due at this moment, once that one is done.
+-- A node leads, its last beat has a number up to this one, and the next is due at this moment, once that one is done.
 pub record IsLeading (n number moment beat_ms : ℕ) (c : Core) : Type 0 where
   pub id : c.id ≡ n
   pub is_up : c.down ≡ None
@@ -102,7 +102,7 @@ heard_leading n number moment beat_ms now count status progress d so w =
     stood_leading n number moment beat_ms now status (told_behind d now count status progress) (begins_run d.status status) (was_up d.status) status.down
     (leads_none status.role status.down so) w.id refl so w.told w.in_time
 
--- how far it is behind a report
+-- how far it is after a report
 up_progress : (d : NodeMonitor) (now : ℕ) (new up : Bool) → (up_behind d now new up).progress ≡ d.progress
 up_progress d now new true = refl
 up_progress d now new false = refl
@@ -121,7 +121,7 @@ heard_progress d now count status progress = stood_progress (told_behind d now c
 pub done_by : (number known heard count : ℕ) → number ≤ heard → number ≤ count → number ≤ max known (min heard count)
 done_by number known heard count first last = omega (arith, first, last)
 
--- Behind the clock it was told to send, or the same is known of it.
+-- After the clock it was asked to send, or the same is known of it.
 clock_by : (n number moment now : ℕ) (settings : Settings) (d : NodeMonitor) (old new : Driver) (given : List Order) (c : Clocks n now settings d old new) (w : IsLeading n number moment settings.beat_ms (core c.own)) (due : Bool) → is_to_beat c.own settings now ≡ due → new.settings ≡ settings → new.orders ≡ ordered old.orders given → (list_any (beats n) given ≡ true) ⊎ Waits n (IsLeading n number moment settings.beat_ms) settings new
 clock_by n number moment now settings d old new given c w true is goes_by orders =
     let told = note_leader c.own settings now w.status w.is_status w.is_up w.is_leader ∙ ap (λ (b : Bool). if b then Some note.Beat else None) is in

@@ -1,4 +1,4 @@
--- What comes of each call of a driver for the claims of a node.
+-- What each call of a driver does for the claims of a node.
 use Rattle.std.proofs.Common.{◌++◌, ℕ, Bool, true, false, List, [], ◌∷◌, length, Option, Some, None, refl, sym, ap, subst}
 use Rattle.std.specs.Prelude.{if◌then◌else◌, nat_lt}
 use Rattle.std.specs.BTreeMap.{keys}
@@ -33,7 +33,7 @@ use Rattle.driver.proofs.Keeping.{Keeps, Sound, keeps_both, orders_keep, same_ke
 use Rattle.driver.proofs.Growing.{AllAre, AllGood}
 use Rattle.driver.proofs.Quiet.{IsQuiet, NoClaim, quiet_told}
 
--- The server is connected to.
+-- The connection to the server is made.
 pub stands_add : (P : Order → Type 0) (stage : Stage) (settings : Settings) (now : ℕ) (before after : Ordered) (new : Stage) → ((bytes : Vec ℕ) → P (order.Send bytes)) → Connects stage settings now before new after → Adds P before after
 stands_add P (Idle since wait) settings now before after new fits (same, none) = nothing_adds P before after none
 stands_add P (Closing since wait) settings now before after new fits (same, none) = nothing_adds P before after none

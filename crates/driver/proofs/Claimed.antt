@@ -1,4 +1,4 @@
--- A line is claimed in time, and again where its claim is not in the log.
+-- A line is claimed in time, and again if its claim is not in the log.
 use Rattle.std.proofs.Common.{◌≡◌, ◌∙◌, ◌++◌, ℕ, zero, suc, ◌+◌, ◌-◌, ◌≤◌, Bool, true, false, List, [], ◌∷◌, Option, Some, None, refl, sym, ap, subst, slice_get, arith}
 use Rattle.std.specs.Prelude.{◌&&◌, ◌||◌, if◌then◌else◌, is_some, nat_eq, not}
 use Rattle.std.specs.List.{list_any}
@@ -30,7 +30,7 @@ use Rattle.driver.proofs.Monitors.{Look, look, look_in}
 use Rattle.driver.proofs.Served.{Turn}
 use Rattle.driver.proofs.Waiting.{items_same, status_of}
 
--- Nothing goes out where a line is to be claimed, and only questions wait.
+-- Nothing goes out if a line is to be claimed, and only questions wait.
 
 no_piece : (due : Bool) (may : Bool) (questions : List Parts) → due ≡ false → piece_at may due (only_questions questions) ≡ None
 no_piece true may questions is = absurd (cc is)
@@ -57,7 +57,7 @@ lines_none (suc count) now node questions old new waiting due (behind, one, more
     in
     rest ∙ first
 
--- A node that is served, with a line that is due, is told to claim it.
+-- A node that is served, with a line that is due, is asked to claim it.
 
 abbrev pub or_look : Look → Option Look → Look
 or_look x None = x
@@ -69,7 +69,7 @@ due_now d settings now line is free =
     ap (λ (found : Option Line). unless_claimed d settings.timeout_ms now found) is
     ∙ ap (λ (b : Bool). if b then None else Some line) free
 
--- What is known of a node that is to be told a claim.
+-- What is known of a node that is to be asked for a claim.
 pub record IsReady (n now : ℕ) (line : Line) (driver : Driver) : Type 0 where
   pub at : NodeMonitor
   pub is : slice_get driver.monitors (n - 1) ≡ Some at
@@ -94,7 +94,7 @@ claim_told : (may : Bool) (due : Option Line) (id : ℕ) (line : Line) → may �
 claim_told may due id line may_is due_is =
     ap (λ (due : Option Line). told id (claim_if may due)) due_is ∙ ap (λ (b : Bool). told id (if b then Some note.Claim else None)) may_is
 
--- what it was told stands among what was ordered
+-- the note is among the orders
 pub among : (is : Order → Bool) (before first last after : Ordered) (order : Order) (given : List Order) → (a : More before first) → last ≡ ordered first (order ∷ []) → (b : More last after) → after ≡ ordered before given → is order ≡ true → list_any is given ≡ true
 among is before first last after order given a one b orders so =
     let all =

@@ -1,4 +1,5 @@
--- What a node is told of claims as nodes tick, and what is known of its last claim behind it.
+-- The claims that a node is asked for as nodes tick, and what is known of its last claim after
+-- that.
 use Rattle.std.proofs.Common.{◌≡◌, ◌∙◌, inl, inr, ℕ, zero, suc, ◌+◌, ◌-◌, ◌<◌, ◌≤◌, Bool, true, false, List, [], ◌∷◌, Option, Some, None, refl, sym, ap, subst, slice_get, ⊎_elim, arith}
 use Rattle.std.specs.Prelude.{◌||◌, if◌then◌else◌, nat_eq, option_map}
 use Rattle.std.proofs.lemmas.Bool.{cases_Bool, eqb-true}
@@ -23,7 +24,7 @@ use Rattle.driver.proofs.Growing.{AllAre, AllGood, by_number}
 use Rattle.driver.proofs.Quiet.{NoClaim}
 use Rattle.driver.proofs.Keeping.{Keeps, Line, Result, Sound, connects_keep, drop_keeps, monitor_keeps, keeps_both, keeps_result, older_keep, result_keeps, same_keeps, writes_keep}
 
--- numbers that are apart are not the same
+-- numbers that differ are not the same
 pub apart_eq : (a b : ℕ) → (a ≡ b → ⊥) → nat_eq a b ≡ false
 apart_eq a b apart = ⊎_elim (λ is. absurd (apart (eqb-true a b is))) (λ is. is) (cases_Bool (nat_eq a b))
 
@@ -42,7 +43,7 @@ claimed_id orders now may None d = refl
 claimed_id orders now true (Some line) d = refl
 claimed_id orders now false (Some line) d = refl
 
--- what a claim changes of its monitor, and orders
+-- what a claim changes in its monitor, and orders
 abbrev pub claim_change : Driver → ℕ → Bool → NodeMonitor → NodeMonitor
 claim_change old now may = λ d. monitor_claimed old.orders d now may (claim_due d old.settings now)
 
@@ -97,7 +98,7 @@ pub due_is : (d : NodeMonitor) (settings : Settings) (now : ℕ) (line : Line) �
 unfolding claim_due
 due_is d settings now line e = unless_by d settings.timeout_ms now (line_to_claim d.status) line e
 
--- the node claims, where something is due and the pace allows it
+-- the node claims, if something is due and the pace allows it
 pub own_may : (n now : ℕ) (may : Bool) (old new : Driver) (d : NodeMonitor) (line : Line) → 1 ≤ n → Sound n old → Sound n new → slice_get old.monitors (n - 1) ≡ Some d → claim_due d old.settings now ≡ Some line → look_at new.monitors (n - 1) ≡ Some (look (monitor_claimed old.orders d now may (Some line))) → new.orders ≡ ordered old.orders (told d.id (claim_if may (Some line))) → Result n old new
 unfolding AllAre
 own_may n now false old new d line low sound new_sound is due changed orders = inl (record {
@@ -191,7 +192,7 @@ node_result n now node old new low low_node sound t =
     (λ is. node_own n now old new low sound (subst (λ (k : ℕ). TicksNode now k old new) is t))
     (λ apart. inl (node_apart n now node old new low low_node apart sound t))
 
--- nodes behind this one tick
+-- nodes after this one tick
 pub nodes_behind : (n count now node : ℕ) (old new : Driver) → 1 ≤ n → n < node → Sound n old → TickNodes count now node old new → Keeps n old new
 unfolding TickNodes
 nodes_behind n zero now node old new low past sound same = same_keeps n old new sound same

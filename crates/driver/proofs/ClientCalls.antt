@@ -1,4 +1,4 @@
--- What comes of a client that connects, and of its bytes, for the claims of a node.
+-- What a client that connects, and its bytes, do for the claims of a node.
 use Rattle.std.proofs.Common.{◌≡◌, ◌∙◌, ℕ, ◌-◌, Bool, true, false, List, [], ◌∷◌, Option, Some, None, refl, sym, ap, subst, slice_get}
 use Rattle.std.specs.Prelude.{◌^◌, if◌then◌else◌, nat_lt, IfSome, is_some}
 use Rattle.wire_bytes.specs.declared.moment.Moment.{Moment}
@@ -125,7 +125,7 @@ greeted_adds P false warned clients number nick before after good g =
     (told_adds P warned.missing clients number nick g.short g.missed good g.misses))
     (missed_add P warned.absent clients number nick g.missed after good g.absent))
 
--- a wrong password may be told to an operator
+-- a wrong password may be logged
 first_adds : (P : Order → Type 0) (first : Bool) (origin : Origin) (before after : Ordered) → P (order.Log (WrongPassword origin)) → after ≡ ordered before (if first then order.Log (WrongPassword origin) ∷ [] else []) → Adds P before after
 unfolding AllAre
 first_adds P true origin before after good is = one_adds P (order.Log (WrongPassword origin)) before after is good
@@ -141,7 +141,7 @@ unfolding AllAre
 more_adds P true count before after good is = record { told = []; orders = is; all = tt }
 more_adds P false count before after good is = one_adds P (order.Log (WrongPasswords count)) before after is good
 
--- what comes of a client's bytes besides
+-- what a client's bytes do besides
 pub comes_add : (P : Order → Type 0) (bytes : List ℕ) (now : ℕ) (at : Moment) (number : ℕ) (old new : Driver) → AllGood P new.clients → ((origin : Origin) → P (order.Log (WrongPassword origin))) → (c : Comes bytes now at number old new) → Adds P c.told new.orders
 comes_add P bytes now at number old new good log c =
     adds_both P c.told c.greeted new.orders

@@ -1,4 +1,4 @@
--- What a report tells a node, as the clock finds its monitor.
+-- What a report sends a node, as the clock finds its monitor.
 use Rattle.std.proofs.Common.{◌≡◌, ◌∙◌, ℕ, ◌-◌, ◌≤◌, Bool, true, false, List, Some, ap, subst, slice_get}
 use Rattle.wire_bytes.specs.declared.moment.Moment.{Moment}
 use Rattle.client_gate.specs.Gates.{GateEffect}
@@ -25,7 +25,7 @@ begins_rest : (n : ℕ) (begins : Bool) (now : ℕ) (at : Moment) (node boot : �
 begins_rest n false now at node boot old new same = rests_by n old new same
 begins_rest n true now at node boot old new b = rests_same n old new (ap monitors_of b.rest) (ap base b.rest)
 
--- What a report of the node itself brings it.
+-- What a report of the node itself does to it.
 pub record HearClocks (n now : ℕ) (status : Status) (progress : Progress) (d : NodeMonitor) (old new : Driver) : Type 0 where
   pub heard : Ordered
   pub more : More old.orders heard
@@ -78,7 +78,7 @@ hear_clocks n now at status effects progress refused d old new low sound is h =
       based = node_based now n h.begun new h.ticks ∙ based;
     }
 
--- What a report of another node brings it.
+-- What a report of another node does to it.
 pub record HearsOther (n now : ℕ) (d : NodeMonitor) (old new : Driver) : Type 0 where
   pub found : Found n (woken old now d) new
   pub based : base new ≡ base (awake now old)

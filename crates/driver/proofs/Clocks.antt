@@ -1,4 +1,4 @@
--- What time tells a node, as the clock finds its monitor.
+-- What time sends a node, as the clock finds its monitor.
 use Rattle.std.proofs.Common.{◌≡◌, ◌∙◌, ◌++◌, ℕ, zero, suc, ◌+◌, ◌-◌, ◌<◌, ◌≤◌, Bool, true, false, List, [], Option, Some, None, refl, sym, ap, subst, slice_get, ⊎_elim, arith}
 use Rattle.std.specs.Prelude.{option_map}
 use Rattle.std.specs.BTreeMap.{keys}
@@ -57,7 +57,7 @@ pub result_more : (n : ℕ) (old new : Driver) → Result n old new → More old
 result_more n old new r =
     ⊎_elim (λ k. kept_more n old new k) (λ c. record { told = c.told; orders = c.orders }) r
 
--- The clock finds a monitor so, and tells its node what it is to be told.
+-- The clock finds this monitor, and sends its node what is due.
 pub record Clocks (n now : ℕ) (settings : Settings) (found : NodeMonitor) (old new : Driver) : Type 0 where
   pub own : NodeMonitor
   pub from : core own ≡ core found
@@ -170,7 +170,7 @@ node_clocks n now d old new low sound is t =
     let served = serves_own n (is_that t.leader n) now t.left new low left.sound t.serves in
     clock_rests n now old.settings d old t.left new second (result_more n t.left new served) (serves_rest n (is_that t.leader n) now n t.left new t.serves)
 
--- those behind it
+-- those after it
 behind_rest : (n count now node : ℕ) (old new : Driver) → 1 ≤ n → n < node → TickNodes count now node old new → Rests n old new
 unfolding TickNodes
 behind_rest n zero now node old new low past same = rests_by n old new same
@@ -211,7 +211,7 @@ woken_is n now d old is =
     slice_get-map (waited_longer (slept old.ran old.settings.timeout_ms now)) old.monitors (n - 1)
     ∙ ap (λ (found : Option NodeMonitor). option_map (waited_longer (slept old.ran old.settings.timeout_ms now)) found) is
 
--- What time brings to a node.
+-- What time does to a node.
 pub record TickClocks (n now : ℕ) (d : NodeMonitor) (old new : Driver) : Type 0 where
   pub clocks : Clocks n now old.settings (woken old now d) old new
   pub based : base new ≡ base (awake now old)

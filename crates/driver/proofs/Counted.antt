@@ -1,4 +1,4 @@
--- How many lines that are said count as not heard of: those that went out.
+-- How many said lines count as not heard of: those that went out.
 use Rattle.std.proofs.Common.{◌≡◌, ◌∙◌, ℕ, ◌+◌, ◌-◌, ◌≤◌, Bool, true, false, List, [], ◌∷◌, length, Option, Some, None, refl, sym, ap, subst, arith}
 use Rattle.std.specs.Prelude.{◌^◌, min, not, if◌then◌else◌}
 use Rattle.std.proofs.lemmas.List.{length-append}

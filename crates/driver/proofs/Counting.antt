@@ -1,4 +1,4 @@
--- How many notes a node was told: as many as its orders told it.
+-- How many notes a node was sent: as many as are in its orders.
 use Rattle.std.proofs.Common.{◌≡◌, ◌∙◌, ◌++◌, ℕ, zero, suc, ◌+◌, ◌-◌, ◌<◌, ◌≤◌, Bool, true, false, List, [], ◌∷◌, length, refl, sym, ap, subst, set, slice_index, arith}
 use Rattle.std.specs.Prelude.{◌^◌, min, nat_eq, if◌then◌else◌}
 use Rattle.std.proofs.lemmas.List.{get_or-set_same, get_or-set_other, length-set}
@@ -15,7 +15,7 @@ use Rattle.driver.proofs.Growing.{by_number}
 abbrev pub most : ℕ
 most = 2 ^ 64 - 1
 
--- a count that is one more, or the same, and behind it more
+-- a count that is one more, or the same, and after that more
 raised_more : (count more : ℕ) → min (min (count + 1) most + more) most ≡ min (count + (1 + more)) most
 raised_more count more = omega (arith)
 
@@ -35,7 +35,7 @@ counted_length told (order.Send bytes) = refl
 counted_length told order.Disconnect = refl
 counted_length told (order.Log news) = refl
 
--- the count of a node behind an order
+-- the count of a node after an order
 pub record Counts (node : ℕ) (told : List ℕ) (o : Order) (more : ℕ) : Type 0 where
   pub small : slice_index (counted told o) (node - 1) ≤ most
   pub same : min (slice_index (counted told o) (node - 1) + more) most ≡ min (slice_index told (node - 1) + (notes_in node o + more)) most
@@ -101,7 +101,7 @@ unfolding counts
 counts_append told [] ys = refl
 counts_append told (x ∷ xs) ys = counts_append (counted told x) xs ys
 
--- what was told in all
+-- what was sent in all
 abbrev pub in_all : Ordered → List ℕ
 in_all orders = counts orders.before orders.items
 
@@ -145,7 +145,7 @@ none_at (suc (suc (suc (suc (suc zero))))) = refl
 none_at (suc (suc (suc (suc (suc (suc zero)))))) = refl
 none_at (suc (suc (suc (suc (suc (suc (suc i))))))) = refl
 
--- no node was told anything first
+-- no node was sent anything at first
 first_none : (node : ℕ) → slice_index none_told.before (node - 1) ≡ 0
 first_none node = none_at (node - 1)
 

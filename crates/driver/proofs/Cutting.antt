@@ -1,4 +1,4 @@
--- The clients of a node that serves nobody: none is left.
+-- The clients of a node that serves nobody: none stays.
 use Rattle.std.proofs.Common.{◌≡◌, ◌∙◌, ◌++◌, ℕ, Bool, true, false, List, [], ◌∷◌, Option, Some, None, refl, sym, ap, subst}
 use Rattle.std.specs.Prelude.{is_some}
 use Rattle.std.specs.List.{All}
@@ -30,7 +30,8 @@ IsAway node clients number = (c : Client) → client_at clients number ≡ Some 
 abbrev pub AreOld : Clients → Clients → Type 0
 AreOld old new = (number : ℕ) (c : Client) → client_at new number ≡ Some c → client_at old number ≡ Some c
 
--- Clients of a node were told that it is down: what is ordered tells the node nothing, and those of these numbers that are left are others'.
+-- Clients of a node were told that it is down: the orders send the node nothing, and those of these numbers that stay
+-- belong to other nodes.
 pub record Cuts (node : ℕ) (numbers : List ℕ) (old new : Told) : Type 0 where
   pub told : List Order
   pub orders : new.orders ≡ ordered old.orders told
@@ -38,7 +39,7 @@ pub record Cuts (node : ℕ) (numbers : List ℕ) (old new : Told) : Type 0 wher
   pub left : AreOld old.clients new.clients
   pub away : All (IsAway node new.clients) numbers
 
--- what one of them was told, and who is left
+-- what one of them was told, and who stays
 pub record Cut (node number : ℕ) (old new : Told) : Type 0 where
   pub told : List Order
   pub orders : new.orders ≡ ordered old.orders told
@@ -63,7 +64,7 @@ gone_old number old new others gone n c is =
     (λ same. none_some c (client_at old n ≡ Some c) (sym (subst (λ (k : ℕ). client_at new k ≡ None) same gone) ∙ is))
     (λ apart. sym (others n apart) ∙ is)
 
--- nor is a node up or down where a client left
+-- nor does a client that left say that a node is up or down
 left_plain : (node : ℕ) (attached : Bool) (origin : Origin) → AllAre (Plain node true) (left_news attached origin)
 unfolding AllAre
 left_plain node true origin = ((tt, refl), tt)
@@ -127,7 +128,7 @@ cuts_each why node (number ∷ numbers) old new (behind, cuts, more) =
       away = All-cons (IsAway node new.clients) number numbers (λ c is. first.away c (last.left number c is)) last.away;
     }
 
--- Once all were told, each client that is left is another node's.
+-- Once all were told, each client that stays belongs to another node.
 pub cuts_all : (P : Order → Type 0) (why : Absence) (node : ℕ) (old new : Told) → AllGood P old.clients → CutEach why node (keys old.clients.all) old new → Grows (Plain node true) old new
 cuts_all P why node old new good cuts =
     let c = cuts_each why node (keys old.clients.all) old new cuts in

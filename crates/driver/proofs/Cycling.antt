@@ -1,4 +1,4 @@
--- What a client's requests are as they are told to its node.
+-- A client's requests as they go to its node.
 use Rattle.std.proofs.Common.{◌≡◌, ◌∙◌, ◌≤◌, ◌++◌, ℕ, Bool, true, false, not, ◌&&◌, ◌||◌, ◌⊎◌, List, [], ◌∷◌, None, length, refl, sym, ap, inl, inr, arith}
 use Rattle.std.specs.Prelude.{IsTrue, codes, if◌then◌else◌, nat_le}
 use Rattle.std.specs.List.{list_all, list_any}
@@ -55,12 +55,12 @@ numbers_kept shown parting [] = refl
 numbers_kept shown parting (request ∷ requests) =
     ap (λ numbers. request.number ∷ numbers) (numbers_kept shown (parted_by shown parting request.action) requests)
 
--- of nothing nothing is told
+-- no requests stay none
 pub none_told : (shown parting : List (List ℕ)) (requests : List Request) → requests ≡ [] → reworded shown parting requests ≡ []
 unfolding reworded
 none_told shown parting requests is = ap (reworded shown parting) is
 
--- Only a Join is told otherwise.
+-- Only a Join is changed.
 
 join_told : (cycled : Bool) (channel : List ℕ) → ((if cycled then Pass (join_line channel) else Join channel) ≡ Join channel) ⊎ ((if cycled then Pass (join_line channel) else Join channel) ≡ Pass (join_line channel))
 join_told true channel = inr refl
@@ -105,7 +105,7 @@ opened_by false name names named is =
 opened_has : (name : List ℕ) (names : List (List ℕ)) → is_name name ≡ true → has_open name (opened name names) ≡ true
 opened_has name names named = opened_by (has_open name names) name names named refl
 
--- the JOIN behind a PART, by whether the channel is open
+-- the JOIN after a PART, by whether the channel is open
 cycled_by : (shown parting : List (List ℕ)) (channel : List ℕ) → is_name channel ≡ true → has_open channel shown ≡ true → is_cycled shown (parted_by shown parting (Part channel)) channel ≡ true
 cycled_by shown parting channel named here =
     ap (λ (b : Bool). b && has_open channel (if b then opened channel parting else parting)) here ∙ opened_has channel parting named
@@ -116,7 +116,7 @@ cycles_go shown parting channel first second named here =
     ap (λ (cycled : Bool). numbered first (Part channel) ∷ numbered second (if cycled then Pass (join_line channel) else Join channel) ∷ [])
     (cycled_by shown parting channel named here)
 
--- What comes of requests, as they are told: the welcome first, where there are some.
+-- The orders for requests: the welcome first, if there are any.
 
 pub asked_so : (attached : Bool) (origin : Origin) (at : Moment) (shown parting : List (List ℕ)) (requests : List Request) → (requests ≡ [] → ⊥)
     → asked_all attached origin at (reworded shown parting requests) ≡ welcome attached origin ++ asks_of origin at (reworded shown parting requests)
@@ -133,7 +133,7 @@ pub first_told : (attached : Bool) (origin : Origin) (before between : Ordered) 
 first_told true origin before between is same = absurd (cc is)
 first_told false origin before between is same = same
 
--- and what it asks behind that
+-- and what it asks after that
 pub asked_behind : (attached : Bool) (origin other : Origin) (at : Moment) (shown parting : List (List ℕ)) (requests told : List Request) (before between : Ordered) → (requests ≡ [] → ⊥)
     → between ≡ ordered before (welcome attached origin) → other ≡ origin → told ≡ reworded shown parting requests
     → ordered between (asks_of other at told) ≡ ordered before (asked_all attached origin at (reworded shown parting requests))

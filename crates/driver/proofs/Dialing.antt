@@ -1,4 +1,4 @@
--- What each call of a driver but a report and time orders of a node that is down, or up.
+-- What each call of a driver but a report and a tick orders for a node that is down, or up.
 use Rattle.std.proofs.Common.{◌≡◌, ◌∙◌, ℕ, ◌-◌, Bool, true, false, List, [], ◌∷◌, Option, Some, None, refl, sym, ap, subst, slice_get}
 use Rattle.std.specs.Prelude.{◌&&◌, ◌^◌, IfSome, if◌then◌else◌, is_some, nat_eq, nat_lt}
 use Rattle.std.specs.BTreeMap.{keys}

@@ -1,4 +1,4 @@
--- A node that is down is told nothing but to start again, whatever is called.
+-- A node that is down gets no note but to start again, whatever is called.
 use Rattle.std.proofs.Common.{◌≡◌, ◌∙◌, ℕ, zero, suc, ◌-◌, ◌≤◌, Bool, true, false, List, [], ◌∷◌, Option, Some, None, refl, sym, ap, subst, slice_get}
 use Rattle.std.specs.BTreeMap.{keys}
 use Rattle.irc_line.specs.Lines.{Parts}
@@ -46,7 +46,7 @@ use Rattle.driver.proofs.Staying.{StandsAs, Stays, Steady, orders_stay}
 use Rattle.driver.proofs.Waiting.{items_same}
 use Rattle.driver.proofs.Watching.{dismissed_stay, nodes_link, nodes_stay}
 
--- The connection to the server is of no node that is down.
+-- The connection to the server belongs to no node that is down.
 abbrev pub IsUp : ℕ → Bool → Stage → Type 0
 IsUp n down stage = node_of stage ≡ Some n → down ≡ false
 
@@ -59,7 +59,7 @@ same_link n down old new same up = up_kept n down old.link.stage new.link.stage 
 none_other : (n : ℕ) (P : Type 0) → None ≡ Some n → P
 none_other n P is = absurd (cc is)
 
--- it is of the node that leads, which is up
+-- it belongs to the node that leads, which is up
 leader_by : (n : ℕ) (down : Bool) (monitors : List NodeMonitor) (own leader : Option ℕ) → StandsAs down (slice_get monitors (n - 1)) → IsLeader monitors leader → IsOf own leader → own ≡ Some n → down ≡ false
 leader_by n down monitors None leader at leads is own = none_other n (down ≡ false) own
 leader_by n down monitors (Some node) leader at leads is own =
@@ -126,7 +126,7 @@ watch_link : (leader : Option ℕ) (old new : Driver) → WatchesFor leader old 
 watch_link None old new same = ap (λ (driver : Driver). driver.link) same
 watch_link (Some node) old new w = level_link _ node _ old new w
 
--- What comes of a call: what it orders leads to how the node stands then.
+-- What a call does: its orders lead to the state of the node afterwards.
 pub record Result (n : ℕ) (down : Bool) (old new : Driver) (told : List Order) : Type 0 where
   pub last : Bool
   pub follows : Follows n down told last
@@ -151,7 +151,7 @@ stayed n down old new told s up is = record {
   up = up;
 }
 
--- where the connection is as it was
+-- if the connection is unchanged
 kept : (n : ℕ) (down : Bool) (old new : Driver) (told : List Order) → Stays n down old new → new.link ≡ old.link → IsUp n down old.link.stage → new.orders ≡ ordered old.orders told → Result n down old new told
 kept n down old new told s same up is = stayed n down old new told s (same_link n down old new same up) is
 
@@ -224,7 +224,7 @@ call_result n down Take told old new low steady up o is = record {
   up = same_link n down old new (ap (λ (driver : Driver). driver.link) o.rest) up;
 }
 
--- what all calls order leads to how the node stands at last
+-- all orders of the calls lead to the state of the node at the end
 record Leads (n : ℕ) (down : Bool) (told : List Order) : Type 0 where
   last : Bool
   follows : Follows n down told last
@@ -240,7 +240,7 @@ steps_lead n down (step ∷ more) old new low steady up (behind, does, rest) =
       follows = follows_both n down r.last l.last step.told (all_told more) r.follows l.follows;
     }
 
--- A new driver knows of no node that it is down.
+-- A new driver knows of no node that is down.
 
 new_at : (settings : Settings) (now i : ℕ) → StandsAs false (slice_get (new_monitors settings now) i)
 new_at settings now zero = (refl, refl)

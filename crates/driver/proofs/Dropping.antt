@@ -1,4 +1,4 @@
--- From where DROP WAITING is said until that drop ends nothing that is said goes to the server.
+-- From DROP WAITING until that drop ends no said line goes to the server.
 use Rattle.std.proofs.Common.{◌≡◌, ◌∙◌, ◌++◌, ℕ, ◌+◌, ◌-◌, Bool, true, false, not, List, [], ◌∷◌, length, Option, Some, None, refl, ap, arith}
 use Rattle.std.specs.Prelude.{◌^◌, ◌||◌, ◌&&◌, if◌then◌else◌, is_some, min}
 use Rattle.std.specs.List.{list_any}
@@ -41,7 +41,7 @@ turns_go (turn ∷ turns) queue are goes =
     turns_go turns (behind turn queue) (rest_none (is_end turn) (list_any is_end turns) are)
     (turn_goes turn queue (first_none (is_end turn) (list_any is_end turns) are) goes)
 
--- Nothing that is said goes out.
+-- No said line goes out.
 
 first_empty : (first rest : List Parts) → first ++ rest ≡ [] → first ≡ []
 first_empty [] rest is = refl
@@ -75,7 +75,7 @@ counts_none count = omega (arith)
 counts_both : (count first more : ℕ) → min (min (count + first) most + more) most ≡ min (count + (first + more)) most
 counts_both count first more = omega (arith)
 
--- so many lines are dropped
+-- this many lines are dropped
 abbrev Counts : ℕ → Queue → Type 0
 Counts count queue = queue.dropping ≡ Some (min count most)
 

@@ -1,4 +1,4 @@
--- Lines by which the server ends the session, by their spelling, and what rewording leaves as it is.
+-- Lines by which the server ends the session, by their encoding, and what rewording leaves unchanged.
 use Rattle.std.proofs.Common.{◌≡◌, ◌∙◌, ℕ, Bool, true, false, ◌&&◌, ◌||◌, List, [], ◌∷◌, ◌++◌, Option, Some, None, length, refl, sym, ap}
 use Rattle.std.specs.Prelude.{◌==◌, IsTrue, Result, Ok, Err, codes, if◌then◌else◌, nat_eq, nat_lt}
 use Rattle.std.specs.List.{list_all, starts_with}
@@ -25,14 +25,14 @@ use Rattle.driver.specs.Nicks.{notice}
 use Rattle.driver.specs.Opening.{behind_space}
 use Rattle.driver.specs.Rewording.{RewordsEndings, ending_in, may_end, noticed, reworded, told_instead, unprefixed, worded}
 
--- what stands behind a word and a space
+-- the part after a word and a space
 behind_word : (word command rest : List ℕ) → list_all is_word_byte word ≡ true → behind_space (((word ++ 32 ∷ []) ++ command) ++ rest) ≡ command ++ rest
 behind_word [] command rest is = refl
 behind_word (x ∷ word) command rest is =
     rw (not_true (x == 32) (and_right (is_content_byte x) _ (and_left (is_word_byte x) _ is)))
     (behind_word word command rest (and_right (is_word_byte x) _ is))
 
--- what stands behind a prefix that is spelled
+-- the part after an encoded prefix
 unprefixed_is : (prefix : Option (List ℕ)) (x : ℕ) (command rest : List ℕ) → is_prefix prefix ≡ true → (x == 58) ≡ false → unprefixed ((spelled_prefix prefix ++ x ∷ command) ++ rest) ≡ x ∷ (command ++ rest)
 unprefixed_is None x command rest is other = rw other refl
 unprefixed_is (Some word) x command rest is other = behind_word word (x ∷ command) rest (and_right (nat_lt 0 (length word)) _ is)
@@ -79,7 +79,7 @@ judged_none : (nick shown : List ℕ) (judgement : Result Parts LineFault) → j
 judged_none nick shown (Err fault) is other = refl
 judged_none nick shown (Ok line) is other = ends_none nick shown line (same_bytes (spelling line) shown) refl (judged_line shown line is) other
 
--- a spelling that begins with neither command ends no session
+-- an encoded line that begins with neither command ends no session
 pub ends_nothing : (nick shown : List ℕ) → may_end shown ≡ false → ending_in nick (canonical shown (judged shown)) ≡ None
 ends_nothing nick shown other = judged_none nick shown (judged shown) refl other
 

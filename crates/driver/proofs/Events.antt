@@ -1,4 +1,4 @@
--- What each call brings to a node: nothing, a shorter wait, a report of it or of another, or time.
+-- What each call does to a node: nothing, a shorter wait, a report of it or of another, or time.
 use Rattle.std.proofs.Common.{◌≡◌, ◌∙◌, ◌++◌, ℕ, ◌-◌, ◌≤◌, Bool, true, false, List, Option, Some, refl, ap, subst, slice_get, arith}
 use Rattle.std.specs.Prelude.{◌||◌, if◌then◌else◌, nat_eq, nat_le}
 use Rattle.std.specs.List.{list_any}
@@ -29,7 +29,7 @@ use Rattle.driver.proofs.Keeping.{Sound}
 use Rattle.driver.proofs.Moves.{Found, Hastens, Rests, base, connect_rests, monitors_of, nodes_hasten, rests_same, takes_rest, watch_rests}
 use Rattle.driver.proofs.Waiting.{items_same}
 
--- What a call brings to a node of which this monitor knows.
+-- What a call does to a node with this monitor.
 pub data Event (n : ℕ) (call : Call) (d : NodeMonitor) (old new : Driver) : Type 0 where
   Idle : ((ran : ℕ) → ran_by ran call ≡ ran) → is_tick call ≡ false → Rests n old new → Found n d new → Event n call d old new
   Hastened : ((ran : ℕ) → ran_by ran call ≡ ran) → is_tick call ≡ false → Hastens n d old new → Event n call d old new
@@ -97,7 +97,7 @@ event n (WatchPasswords now) d old new low high sound is w = idle n (WatchPasswo
 event n (Refuse number) d old new low high sound is o = idle n (Refuse number) d old new is (λ ran. refl) refl (rests_same n old new (ap monitors_of o.rest) (ap base o.rest))
 event n Take d old new low high sound is o = idle n Take d old new is (λ ran. refl) refl (rests_same n old new (ap monitors_of o.rest) (ap base o.rest))
 
--- where the driver gives orders, which of them it gave
+-- which orders the driver gave
 pub clock_orders : (n now : ℕ) (settings : Settings) (d : NodeMonitor) (old new : Driver) (given : List Order) → (c : Clocks n now settings d old new) → new.orders ≡ ordered old.orders given → given ≡ c.first.told ++ (told c.own.id (note_at c.own settings now) ++ c.last.told)
 clock_orders n now settings d old new given c is =
     let own = told c.own.id (note_at c.own settings now) in
@@ -117,7 +117,7 @@ any_last is xs ys here = list_any-append is xs ys ∙ ap (λ (b : Bool). list_an
 pub any_first : (is : Order → Bool) (xs ys : List Order) → list_any is xs ≡ true → list_any is (xs ++ ys) ≡ true
 any_first is xs ys here = list_any-append is xs ys ∙ ap (λ (b : Bool). b || list_any is ys) here
 
--- a node that is to be told a note is told it
+-- a node gets the note that is due
 pub clock_tells : (n now : ℕ) (settings : Settings) (d : NodeMonitor) (old new : Driver) (given : List Order) (is : Order → Bool) (note : Note TowerBody WireLine) → (c : Clocks n now settings d old new) → new.orders ≡ ordered old.orders given → note_at c.own settings now ≡ Some note → is (Submit c.own.id note) ≡ true → list_any is given ≡ true
 clock_tells n now settings d old new given is note c orders note_is so =
     ap (list_any is) (clock_orders n now settings d old new given c orders)

@@ -1,4 +1,4 @@
--- A node's worker reports: the node is down behind it, or up, and what was ordered fits.
+-- A node's worker reports: the node is down after it, or up, and what was ordered fits.
 use Rattle.std.proofs.Common.{◌≡◌, ◌∙◌, ℕ, ◌-◌, Bool, true, false, not, List, [], ◌∷◌, Option, Some, None, refl, sym, ap, subst, slice_get}
 use Rattle.std.specs.Prelude.{◌&&◌, ◌||◌, if◌then◌else◌, is_some, nat_eq, map}
 use Rattle.std.proofs.lemmas.Option.{slice_get-map}
@@ -26,7 +26,7 @@ use Rattle.driver.proofs.Reporting.{heard_look}
 use Rattle.driver.proofs.Restarts.{follows_both, Follows, Plain, follows_all}
 use Rattle.driver.proofs.Staying.{StandsAs, Stays, Steady, as_kept, grows_stay, is_down_so, stays_both}
 
--- What was ordered leads to how the node stands now.
+-- The orders lead to the state of the node now.
 pub record Turns (n : ℕ) (down : Bool) (old new : Driver) : Type 0 where
   pub last : Bool
   pub told : List Order
@@ -66,7 +66,7 @@ passed_stays n now at node status effects progress refused down old new steady h
     let (grows, same) = passes_grow (Plain n down) now at node effects woken h.passed steady.good h.passes in
     stays_both n down old woken h.passed first (grows_stay n down woken h.passed first.steady same grows)
 
--- How the node stands is told.
+-- The state of the node is reported.
 
 pub elected_plain : (n : ℕ) (down b : Bool) (node term : ℕ) → AllAre (Plain n down) (if b then order.Log (news.Elected node term) ∷ [] else [])
 unfolding AllAre
@@ -106,7 +106,7 @@ stood_other n down d status None apart =
     (up_other n down d.id status.boot (was_up d.status) apart)
 stood_other n down d status (Some cause) apart = down_other n down d.id cause d.down apart
 
--- the monitor of a report is another node's, if it is one's
+-- the monitor of a report belongs to another node, if it belongs to one
 abbrev pub IsOther : ℕ → Option NodeMonitor → Type 0
 IsOther n None = Unit {0}
 IsOther n (Some d) = nat_eq d.id n ≡ false
@@ -119,7 +119,7 @@ news_other n down status (Some d) other =
     (elected_plain n down (is_elected d status) d.id status.term)
     (stood_other n down d status status.down other)
 
--- what the report changes of its monitor
+-- what the report changes in its monitor
 abbrev pub stood_change : Driver → ℕ → Status → Progress → NodeMonitor → NodeMonitor
 stood_change old now status progress = λ d. heard_behind d now (told_to old.orders d.id) status progress
 
@@ -196,7 +196,7 @@ stood_stands : (d : NodeMonitor) (now : ℕ) (new up : Bool) (cause : Option Cau
 stood_stands d now new up None = up_stands d now new up
 stood_stands d now new up (Some cause) = down_stands d now d.down refl
 
--- the monitor behind a report knows what it told
+-- the monitor after a report knows what it said
 pub heard_stands : (d : NodeMonitor) (now told : ℕ) (status : Status) (progress : Progress) → StandsAs (is_some status.down) (Some (heard_behind d now told status progress))
 heard_stands d now told status progress = (
   stood_stands (told_behind d now told status progress) now (begins_run d.status status) (was_up d.status) status.down,

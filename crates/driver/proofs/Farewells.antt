@@ -1,4 +1,4 @@
--- A client that leaves is shown all that it is shown, as long as its connection stands.
+-- A client that is leaving gets all that it is shown, as long as it is connected.
 use Rattle.std.proofs.Common.{◌≡◌, ◌∙◌, ◌++◌, ℕ, Bool, true, false, not, ◌&&◌, ◌||◌, List, [], ◌∷◌, Some, refl, sym, ap, subst, ⊎_elim}
 use Rattle.std.specs.Prelude.{if◌then◌else◌, is_some, nat_eq}
 use Rattle.std.specs.Global.{Vec}
@@ -30,7 +30,7 @@ use Rattle.driver.proofs.Cycling.{none_told}
 use Rattle.driver.proofs.Owning.{effect_own, event_own}
 use Rattle.driver.proofs.GoneClients.{There, again_writes, all_gone, anew_gate, anew_leaving, anew_origin, leaving_so, not_both, not_slow, or_cut, or_gone, parted_gone, parts_gone, same_there, waited_gate, waited_leaving, waited_origin, writes_both, writes_nothing}
 
--- What a client is shown that leaves, and is still there.
+-- What a client is shown that is leaving, and is still there.
 
 if_same : (b : Bool) (xs : List ℕ) → b ≡ true → (if b then xs else []) ≡ xs
 if_same true xs is = refl
@@ -80,7 +80,7 @@ parts_there false s behind at since bytes old told new before orders after remai
 parts_there true s behind at since bytes old told new before orders after remains t h =
     absurd (cc (parted_gone s behind at told new orders after h, remains))
 
--- what came of a request, where the client is told something or nothing by it, and its gate stays remains
+-- an effect of a request, which shows the client something or nothing, and after which its gate stays
 passed_there : (e : GateEffect) (now : ℕ) (at : Moment) (s : Settings) (calls : List Call) (since : Timer) (c told : Client) (before orders : Ordered) → c.is_gone ≡ false → c.leaving ≡ Some since → (p : HasPassed s (Hear e ∷ calls) (given_effect s e) now at c before told orders) → p.fed.close ≡ false → There s since (given_effect s e).reply c before told orders
 passed_there e now at s calls since c told before orders here is p stays =
     let fed = p.fed in
@@ -117,7 +117,7 @@ passed_there e now at s calls since c told before orders here is p stays =
       };
     }
 
--- the same where the gate may close
+-- the same if the gate may close
 effect_by : (close : Bool) (e : GateEffect) (now : ℕ) (at : Moment) (s : Settings) (calls : List Call) (since : Timer) (c told : Client) (before orders : Ordered) → told.is_gone ≡ false → c.is_gone ≡ false → c.leaving ≡ Some since → (p : HasPassed s (Hear e ∷ calls) (given_effect s e) now at c before told orders) → p.fed.close ≡ close → There s since (given_effect s e).reply c before told orders
 effect_by false e now at s calls since c told before orders remains here is p stays = passed_there e now at s calls since c told before orders here is p stays
 effect_by true e now at s calls since c told before orders remains here is p closes =
@@ -126,7 +126,7 @@ effect_by true e now at s calls since c told before orders remains here is p clo
     let gone : told.is_gone ≡ true = ap (λ (client : Client). client.is_gone) p.stands.rest ∙ or_cut c.is_gone (is_cut p.fed) cut in
     absurd (cc (gone, remains))
 
--- the same of a client whose asking began anew
+-- the same for a client whose asking began anew
 as_old : (s : Settings) (since : Timer) (bytes : List ℕ) (old c told : Client) (before orders : Ordered) → c.origin ≡ old.origin → There s since bytes c before told orders → There s since bytes old before told orders
 as_old s since bytes old c told before orders same t = record {
   behind = t.behind;
@@ -176,7 +176,7 @@ kept_there timeout now at s calls since old new before after stands is k =
           (again_writes old.origin.2 again old.origin at (gate s calls).waiting k.told after k.orders);
     }
 
--- time passes for a client that leaves, and is still there behind it
+-- time passes for a client that is leaving, and is still there afterwards
 ticks_there : (reads overdue : Bool) (timeout now : ℕ) (at : Moment) (s : Settings) (calls : List Call) (since : Timer) (old new : Client) (before after : Ordered) → new.is_gone ≡ false → old.is_gone ≡ false → is_overdue old now ≡ overdue → Stands s calls old.gate → old.leaving ≡ Some since → Ticks reads timeout now at s calls old before new after → There s since [] old before new after
 ticks_there reads true timeout now at s calls since old new before after remains here late stands is t =
     let gone = ap (λ (client : Client). client.is_gone) ((t.overdue late).stays here).rest in absurd (cc (gone, remains))

@@ -25,7 +25,7 @@ use Rattle.driver.specs.Silence.{IsKept, waited}
 use Rattle.driver.specs.Telling.{Ordered, ordered}
 use Rattle.driver.proofs.Owning.{effect_own, event_own}
 
--- What is written, and what is closed, by orders behind others.
+-- What is written, and what is closed, by orders after others.
 
 written_append : (client : ℕ) (xs ys : List Order) → written_to client (xs ++ ys) ≡ written_to client xs ++ written_to client ys
 written_append client xs ys = flat_map-append (bytes_to client) xs ys
@@ -79,7 +79,7 @@ again_writes client true origin at requests before after is = record {
 }
 again_writes client false origin at requests before after is = record { told = []; orders = is; written = refl; is_open = refl }
 
--- A client is still there behind an event.
+-- A client is still there after an event.
 pub record There (s : Settings) (since : Timer) (bytes : List ℕ) (old : Client) (before : Ordered) (new : Client) (after : Ordered) : Type 0 where
   pub behind : List Call
   pub stands : Stands s behind new.gate
@@ -96,7 +96,7 @@ same_there s calls since old new before after stands is same none = record {
   writes = writes_nothing old.origin.2 before after none;
 }
 
--- who leaves is read no more
+-- a client that is leaving is read no more
 pub leaving_so : (gone : Bool) (leaving : Option Timer) (since : Timer) → leaving ≡ Some since → (gone || is_some leaving) ≡ true
 leaving_so true leaving since is = refl
 leaving_so false leaving since is = ap (λ (o : Option Timer). is_some o) is
@@ -105,7 +105,7 @@ gone_so : (gone : Bool) (leaving : Option Timer) → gone ≡ true → (gone || 
 gone_so true leaving is = refl
 gone_so false leaving is = absurd (cc is)
 
--- nothing is both so and not so
+-- nothing is both true and false
 pub not_both : (b : Bool) (P : Type 0) → b ≡ true → b ≡ false → P
 not_both true P is other = absurd (cc other)
 not_both false P is other = absurd (cc is)

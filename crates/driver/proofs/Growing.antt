@@ -1,4 +1,4 @@
--- What clients order, and that each stands behind calls of its gate, whatever happens to them.
+-- What clients order, and that the gate of each has had some calls, whatever happens to them.
 use Rattle.std.proofs.Common.{◌≡◌, ◌∙◌, ◌++◌, ℕ, Bool, true, false, List, [], ◌∷◌, Option, Some, None, refl, sym, ap, subst, ⊎_elim, arith}
 use Rattle.std.specs.Prelude.{◌&&◌, if◌then◌else◌}
 use Rattle.std.proofs.lemmas.Bool.{cases_lt}
@@ -25,7 +25,7 @@ use Rattle.driver.specs.Telling.{Ordered, ordered}
 use Rattle.driver.proofs.Owning.{dismissed_own, ticks_own, words_own}
 use Rattle.driver.proofs.OwnOrders.{Owns, only_left, only_parting}
 
--- all orders are so
+-- all orders are of this kind
 unfoldable pub AllAre : (Order → Type 0) → List Order → Type 0
 AllAre P [] = Unit {0}
 AllAre P (order ∷ more) = P order × AllAre P more
@@ -35,13 +35,13 @@ unfolding AllAre
 all_append P [] ys first last = last
 all_append P (x ∷ xs) ys (is, first) last = (is, all_append P xs ys first last)
 
--- orders of a client are so where each order of it is
+-- orders of a client are of this kind if each order of it is
 pub only_all_are : (P : Order → Type 0) (origin : Origin) (told : List Order) → ((order : Order) → IsFor origin order → P order) → TellsOnly origin told → AllAre P told
 unfolding AllAre TellsOnly
 only_all_are P origin [] fits own = tt
 only_all_are P origin (order ∷ more) fits (is, own) = (fits order is, only_all_are P origin more fits own)
 
--- A client stands behind calls of its gate, and its orders are so.
+-- The gate of a client has had some calls, and its orders are of this kind.
 pub record Good (P : Order → Type 0) (c : Client) : Type 0 where
   pub settings : Settings
   pub calls : List Call
@@ -51,7 +51,7 @@ pub record Good (P : Order → Type 0) (c : Client) : Type 0 where
 abbrev pub AllGood : (Order → Type 0) → Clients → Type 0
 AllGood P clients = (number : ℕ) (c : Client) → client_at clients number ≡ Some c → Good P c
 
--- More is ordered, all of it so, and the clients stay as they have to be.
+-- More is ordered, all of this kind, and the clients stay as they have to be.
 pub record Grows (P : Order → Type 0) (old new : Told) : Type 0 where
   pub told : List Order
   pub orders : new.orders ≡ ordered old.orders told
@@ -148,7 +148,7 @@ ticks_grow P at timeout now monitors (number ∷ numbers) old new good (behind, 
     let first = tick_by P at timeout now monitors number (client_at old.clients number) old behind refl good ticks in
     grows_both P old behind new first (ticks_grow P at timeout now monitors numbers behind new first.good more)
 
--- A node tells what may be lost.
+-- A node reports what may be lost.
 word_of : (P : Order → Type 0) (at : Moment) (now node lost : ℕ) (refused : Bool) (number : ℕ) (c : Client) (own : Bool) (old new : Told) → client_at old.clients number ≡ Some c → is_of c.origin node ≡ own → AllGood P old.clients → WordsClient at now node lost refused number old new → Grows P old new
 word_of P at now node lost refused number c false old new is own good w = same_grows P old new good (w.stays c is own)
 word_of P at now node lost refused number c true old new is own good w =
@@ -175,7 +175,7 @@ gone_good P number old new good others gone n c found =
     (λ same. none_some c (Good P c) (sym gone ∙ subst (λ (n : ℕ). client_at new n ≡ Some c) (sym same) found))
     (λ apart. good n c (sym (others n apart) ∙ found))
 
--- Clients of runs that are over are left.
+-- Clients of runs that are over are closed.
 leave_of : (P : Order → Type 0) (at : Moment) (node boot number : ℕ) (c : Client) (below : Bool) (old new : Told) → client_at old.clients number ≡ Some c → is_below c.origin node boot ≡ below → AllGood P old.clients → LeavesClient at node boot number old new → Grows P old new
 leave_of P at node boot number c false old new is below good l = same_grows P old new good (l.stays c is below)
 leave_of P at node boot number c true old new is below good l =

@@ -1,4 +1,4 @@
--- Nodes that are looked at, one and then those behind it.
+-- Nodes are looked at, first one and then those after it.
 use Rattle.std.proofs.Common.{◌≡◌, ℕ, suc, ◌+◌, ◌-◌, ◌<◌, ◌≤◌, refl, subst, arith}
 use Rattle.std.specs.Prelude.{slice_get}
 use Rattle.driver.specs.declared.driver.Driver.{Driver}
@@ -10,7 +10,7 @@ hang_more id now old behind new within hangs more =
     let count : suc (8 - (id + 1)) ≡ 8 - id = omega (arith, within) in
     subst (λ (count : ℕ). HangNodes count now id old new) count (behind, hangs, more)
 
--- behind the last node none is left
+-- after the last node none is left
 pub hang_none : (id now : ℕ) (driver : Driver) → 8 ≤ id → HangNodes (8 - id) now id driver driver
 unfolding HangNodes
 hang_none id now driver over =

@@ -1,4 +1,4 @@
--- What a report, and time, order of a node that is down, or up.
+-- What a report, and time, order for a node that is down, or up.
 use Rattle.std.proofs.Common.{◌≡◌, ◌∙◌, ◌++◌, ℕ, zero, suc, ◌+◌, ◌-◌, ◌≤◌, Bool, true, false, List, Option, Some, None, refl, sym, ap, subst, slice_get, arith}
 use Rattle.std.specs.Prelude.{◌&&◌, ◌||◌, not, is_some, nat_eq, option_map}
 use Rattle.std.specs.BTreeMap.{keys}
@@ -50,7 +50,7 @@ words_fit : (n : ℕ) (down : Bool) (cause : Option Cause) (refused lost : Bool)
 words_fit n down (Some cause) refused lost now at node driver old new good w = cuts_grow (Plain n down) Down node (keys old.clients.all) old new good w
 words_fit n down None refused lost now at node driver old new good w = words_if n down (refused || lost) refused now at node (lost_at driver.monitors node) old new good w
 
--- of the node itself, which is down or up behind the report
+-- of the node itself, which is down or up after the report
 words_own : (n : ℕ) (P : Order → Type 0) (cause : Option Cause) (refused lost : Bool) (now : ℕ) (at : Moment) (driver : Driver) (old new : Told) → AllGood P old.clients → WordsBy cause refused lost now at n driver old new → Grows (Plain n (is_some cause)) old new
 words_own n P (Some cause) refused lost now at driver old new good w = cuts_all P Down n old new good w
 words_own n P None refused lost now at driver old new good w =

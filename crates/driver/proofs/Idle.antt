@@ -1,4 +1,4 @@
--- Where nothing goes out, what waits stays as it is.
+-- If nothing goes out, what waits is unchanged.
 use Rattle.std.proofs.Common.{◌≡◌, Bool, true, false, List, [], ◌∷◌, Option, Some, None, refl}
 use Rattle.irc_line.specs.Lines.{Parts}
 use Rattle.driver.specs.declared.outgoing.Piece.{Piece}

@@ -1,4 +1,4 @@
--- What clients, and a look at the log and the nodes, bring for the connection to the server: nothing.
+-- What clients, and a look at the log and the nodes, do for the connection to the server: nothing.
 use Rattle.std.proofs.Common.{◌≡◌, ◌∙◌, ℕ, zero, suc, ◌-◌, Bool, true, false, List, [], ◌∷◌, Option, Some, None, refl, sym, ap, subst, slice_get}
 use Rattle.std.specs.Prelude.{if◌then◌else◌, ◌+◌}
 use Rattle.std.specs.BTreeMap.{keys}
@@ -73,7 +73,7 @@ nobody_goes : (c : Connection) (old new : Driver) → Fits c old.link → AllGoo
 nobody_goes c old new fits good link (clients, orders) =
     adds_goes 0 c old new fits good link clients (nothing_adds Inner old.orders new.orders orders)
 
--- what fits what waits, fits what is left of it
+-- what fits with what waits fits with what is left of it
 speaks_fits : (bytes : List ℕ) (now : ℕ) (at : Moment) (number : ℕ) (c : Connection) (old new : Driver) → Speaks bytes now at number old new → Fits c old.link → Fits c new.link
 speaks_fits bytes now at number c old new s fits =
     let stage : new.link.stage ≡ old.link.stage = ap (λ (driver : Driver). driver.link.stage) s.rest in

@@ -34,18 +34,18 @@ use Rattle.driver.proofs.Writing.{lines_add, lines_rest}
 abbrev pub Line : Type 0
 Line = (ℕ × ℕ) × ℕ
 
--- each client stands behind calls of its gate, and each monitor is that of its node
+-- the gate of each client has had some calls, and each monitor belongs to its node
 pub record Sound (n : ℕ) (driver : Driver) : Type 0 where
   pub good : AllGood (NoClaim n) driver.clients
   pub ids : Ids driver.monitors
 
--- The node was told no claim, and what is known of its last one is as before.
+-- The node was asked for no claim, and what is known of its last one is unchanged.
 pub record Keeps (n : ℕ) (old new : Driver) : Type 0 where
   pub adds : Adds (NoClaim n) old.orders new.orders
   pub sound : Sound n new
   pub same : look_at new.monitors (n - 1) ≡ look_at old.monitors (n - 1)
 
--- The node was told the claim of a line, of which none was unsettled.
+-- The node was asked for the claim of a line, with no unsettled claim of it.
 pub record IsClaimed (n : ℕ) (old new : Driver) : Type 0 where
   pub told : List Order
   pub orders : new.orders ≡ ordered old.orders told
@@ -151,7 +151,7 @@ orders_keep n old new sound monitors clients adds = record {
   same = ap (λ (monitors : List NodeMonitor). look_at monitors (n - 1)) monitors;
 }
 
--- a node is told what the clock and word of its runs tell it
+-- a node gets the notes of the clock and of the retirement of its runs
 pub monitor_keeps : (n now node : ℕ) (old new : Driver) → Sound n old → TicksMonitor now node old new → Keeps n old new
 monitor_keeps n now node old new sound t =
     let change : NodeMonitor → NodeMonitor = ticked old.orders old.retirements.all old.settings now in
@@ -194,7 +194,7 @@ ends_keep n now why old new sound e =
       all = all_append (NoClaim n) (ending old.link.stage why) (closed_orders node) (ending_quiet n old.link.stage why) (closed_quiet n node);
     })
 
--- it is asked for a word
+-- it is sent a PING
 asks_by : (n : ℕ) (asks : Bool) (now : ℕ) (old new : Driver) → Sound n old → new ≡ record old { orders = new.orders; link = record old.link { stage = new.link.stage } } → AsksForWord asks now old.link.stage old.orders new.link.stage new.orders → Keeps n old new
 asks_by n false now old new sound rest (stage, orders) =
     orders_keep n old new sound (ap (λ (driver : Driver). driver.monitors) rest) (ap (λ (driver : Driver). driver.clients) rest)

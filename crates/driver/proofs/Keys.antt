@@ -60,7 +60,7 @@ others_stay channel (pair ∷ more) keys none few =
     others_stay channel more (with_key pair.channel pair.key keys) (rest_none (is_of channel pair) (list_any (is_of channel) more) none) (omega (arith, few, longer))
     ∙ other_with channel pair.channel pair.key keys (first_none (is_of channel pair) (list_any (is_of channel) more) none) (omega (arith, few))
 
--- A channel is joined by what was tried, and by what was refused it is not.
+-- A channel is joined by the key that was tried, and not by one that was refused.
 
 and_first : (a b : Bool) → (a && b) ≡ true → a ≡ true
 and_first true b is = refl

@@ -1,4 +1,4 @@
--- What comes of time for the connection to the server.
+-- What time does to the connection to the server.
 use Rattle.std.proofs.Common.{◌≡◌, ◌∙◌, ℕ, zero, suc, Bool, true, false, List, Option, Some, None, refl, sym, ap, subst}
 use Rattle.std.specs.Prelude.{◌+◌}
 use Rattle.std.specs.BTreeMap.{keys}
@@ -49,7 +49,7 @@ woken_goes now c old new g = record { last = g.last; told = g.told; orders = g.o
 pub stage_link : (stage : Stage) (old new : Driver) → old.link.stage ≡ stage → new.link.stage ≡ stage → new.link ≡ record old.link { stage = new.link.stage } → new.link ≡ old.link
 stage_link stage old new is same link = link ∙ ap (λ (stage : Stage). record old.link { stage = stage }) (same ∙ sym is)
 
--- A server that is quiet is asked for a word.
+-- A server that is quiet is sent a PING.
 asks_go : (now : ℕ) (c : Connection) (asks : Bool) (stage : Stage) (old new : Driver) → is_quiet stage now ≡ asks → old.link.stage ≡ stage → Fits c old.link → AllGood Inner old.clients → new.link ≡ record old.link { stage = new.link.stage } → new.clients ≡ old.clients → AsksForWord asks now stage old.orders new.link.stage new.orders → Goes now c old new
 asks_go now c false stage old new quiet is fits good link clients (same, none) =
     adds_goes now c old new fits good (stage_link stage old new is same link) clients (nothing_adds Inner old.orders new.orders none)

@@ -1,4 +1,4 @@
--- What comes of each call for the connection to the server: over all calls sessions end first.
+-- What each call does to the connection to the server: over all calls sessions end first.
 use Rattle.std.proofs.Common.{◌≡◌, ◌∙◌, ℕ, Bool, true, false, List, [], ◌∷◌, Option, Some, None, refl, sym, ap, subst}
 use Rattle.std.specs.Prelude.{if◌then◌else◌, nat_eq}
 use Rattle.std.specs.BTreeMap.{keys}
@@ -44,7 +44,7 @@ use Rattle.driver.proofs.Used.{says_go}
 use Rattle.driver.proofs.Waiting.{items_same}
 use Rattle.driver.proofs.Lapsing.{stage_link, ticks_go}
 
--- The server is connected to, or sends bytes.
+-- The connection to the server is made, or brings bytes.
 
 quiet_stage : (c : Connection) (stage : Stage) (old new : Driver) → old.link.stage ≡ stage → Fits c old.link → AllGood Inner old.clients → new.link.stage ≡ stage → new.link ≡ record old.link { stage = new.link.stage } → new.clients ≡ old.clients → new.orders ≡ old.orders → Goes 0 c old new
 quiet_stage c stage old new is fits good same link clients none =
@@ -170,7 +170,7 @@ takes_go c (Some node) now at bytes old new fits good t =
 
 -- Each call.
 
--- what a call orders may be ordered, and leads to how the connection stands
+-- what a call orders may be ordered, and leads to the state of the connection
 record Behind (now : ℕ) (c : Connection) (told : List Order) (new : Driver) : Type 0 where
   next : Connection
   leads : Leads now c told next

@@ -7,7 +7,7 @@ use Rattle.driver.specs.declared.leader.Leader.{Leader}
 use Rattle.driver.specs.Leading.{IsBest, IsLeader, LeadsMost, NoneLeads, NoneLeadsAbove, better, term_at}
 use Rattle.wire_bytes.specs.Limits.{node_limit}
 
--- none of the nodes up to this one leads above a term, nor does the next one: so none of those up to that one does
+-- none of the nodes up to this one leads above a term, nor does the next one: so none of those up to the next one does
 none_above : (monitors : List NodeMonitor) (i : ℕ) (low high : ℕ) → low ≤ high → NoneLeadsAbove monitors i low → ((t : ℕ) → term_at monitors (suc i) ≡ Some t → t ≤ high) → NoneLeadsAbove monitors (suc i) high
 none_above monitors i low high le upto own other t first within leads =
     ⊎_elim
@@ -27,7 +27,7 @@ first_best monitors i term none leads = record {
   is_first = λ other t first before is. absurd (cc (none other first (omega (arith, before)), is));
 }
 
--- one that leads, behind a best one
+-- one that leads, after a best one
 next_best : (monitors : List NodeMonitor) (i term : ℕ) (best : Leader) (less : Bool) → nat_lt best.term term ≡ less → IsBest monitors i (Some best) → term_at monitors (suc i) ≡ Some term → IsBest monitors (suc i) (if less then Some (record { node = suc i; term = term }) else Some best)
 next_best monitors i term best true is so own =
     let below : best.term < term = ltb-true best.term term is in
@@ -55,7 +55,7 @@ next_best monitors i term best false is so own =
       is_first = so.is_first;
     }
 
--- one that does not lead, behind a best one
+-- one that does not lead, after a best one
 kept_best : (monitors : List NodeMonitor) (i : ℕ) (best : Leader) → IsBest monitors i (Some best) → term_at monitors (suc i) ≡ None → IsBest monitors (suc i) (Some best)
 kept_best monitors i best so is =
     let within : best.node ≤ i = so.high in
@@ -67,7 +67,7 @@ kept_best monitors i best so is =
       is_first = so.is_first;
     }
 
--- the best of one node more
+-- the best with one more node
 best_by : (monitors : List NodeMonitor) (i : ℕ) (best : Option Leader) (own : Option ℕ) → term_at monitors (suc i) ≡ own → IsBest monitors i best → IsBest monitors (suc i) (better best (suc i) own)
 best_by monitors i None None is none =
     λ other first within.
@@ -86,7 +86,7 @@ best_more monitors i best is = best_by monitors i best (term_at monitors (suc i)
 pub leader_is : (monitors : List NodeMonitor) (best : Leader) → IsBest monitors node_limit (Some best) → IsLeader monitors (Some best.node)
 leader_is monitors best so = (best.term, so)
 
--- of the same nodes only one leads so
+-- among the same nodes there is only one such leader
 same_leader : (monitors : List NodeMonitor) (last n m s t : ℕ) → LeadsMost monitors last n s → LeadsMost monitors last m t → m ≡ n
 same_leader monitors last n m s t a b =
     let most : t ≤ s = a.none_above m t b.low b.high b.leads in

@@ -1,4 +1,4 @@
--- What is learnt of a JOIN is the nick in force.
+-- The nick learnt from a JOIN is the nick in force.
 use Rattle.std.proofs.Common.{◌≡◌, ◌∙◌, ℕ, Bool, true, false, List, Option, Some, None, refl, ap, subst}
 use Rattle.std.specs.Prelude.{if◌then◌else◌}
 use Rattle.irc_line.specs.Names.{is_name, same_bytes}
@@ -17,7 +17,7 @@ learnt_by true asked nick old learnt is equal named in_force same = ap nick_in s
 learnt_by false asked nick old learnt is equal named in_force l =
     named_by (is_name nick) nick old learnt named l
 
--- what is learnt of a nick that is shown, where none was given
+-- what is learnt from a nick that is shown, if none was given
 shown_by : (given shown : Option (List ℕ)) (nick : List ℕ) (old learnt : Driver) → old.given ≡ given → given ≡ None → shown ≡ Some nick → is_name nick ≡ true → LearnsIf (nick_learnt given old.settings.nick shown) old learnt → nick_in learnt ≡ nick
 shown_by given shown nick old learnt here none is named l =
     let asked = old.settings.nick in

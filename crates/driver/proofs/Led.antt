@@ -1,4 +1,4 @@
--- The connection to the server is of the node that leads in the greatest term, or there is none.
+-- The connection to the server belongs to the leader of the greatest term, or there is none.
 use Rattle.std.proofs.Common.{◌≡◌, ◌∙◌, ℕ, suc, zero, ◌+◌, ◌-◌, ◌<◌, ◌≤◌, Bool, true, false, not, List, Option, Some, None, length, refl, sym, ap, subst, set, slice_get, ⊎_elim, arith}
 use Rattle.std.specs.Prelude.{if◌then◌else◌}
 use Rattle.std.proofs.lemmas.Bool.{cases_lt, eqb-true}
@@ -21,7 +21,7 @@ use Rattle.driver.specs.Writing.{may_claim}
 use Rattle.driver.proofs.Leading.{leader_kept}
 use Rattle.driver.proofs.Writing.{lines_rest}
 
--- one of two monitors at the same place leads in the term in which the other leads, where they stand alike
+-- one of two monitors at the same place leads in the term in which the other leads, if their nodes have the same state
 term_same : (monitors : List NodeMonitor) (i : ℕ) (d v : NodeMonitor) → slice_get monitors i ≡ Some d → v.status ≡ d.status → term_in (slice_get (set monitors i v) i) ≡ term_in (slice_get monitors i)
 term_same monitors i d v is same =
     let within : i < length monitors = slice_get_within monitors i d is in
@@ -58,18 +58,18 @@ term_kept monitors i j d v is same =
     (cases_lt i j))
     (cases_lt j i)
 
--- a change that keeps how a node stands keeps who leads
+-- a change that keeps a node's state keeps who leads
 terms_kept : (change : NodeMonitor → NodeMonitor) → ((monitor : NodeMonitor) → (change monitor).status ≡ monitor.status) → (monitors : List NodeMonitor) (node other : ℕ) (at : Option NodeMonitor) → slice_get monitors (node - 1) ≡ at → term_in (slice_get (changed_if change monitors (node - 1) at) (other - 1)) ≡ term_at monitors other
 terms_kept change same monitors node other None is = refl
 terms_kept change same monitors node other (Some monitor) is = term_kept monitors (node - 1) (other - 1) monitor (change monitor) is (same monitor)
 
--- a claim keeps how its node stands
+-- a claim keeps its node's state
 claimed_stands : (orders : Ordered) (now : ℕ) (may : Bool) (due : Option ((ℕ × ℕ) × ℕ)) (monitor : NodeMonitor) → (monitor_claimed orders monitor now may due).status ≡ monitor.status
 claimed_stands orders now may None monitor = refl
 claimed_stands orders now true (Some line) monitor = refl
 claimed_stands orders now false (Some line) monitor = refl
 
--- a connection that is gone is of no node
+-- a connection that is gone belongs to no node
 pub idle_of_none : (stage : Stage) (backoff : Backoff) (now : ℕ) → node_of (idle_behind stage backoff now) ≡ None
 idle_of_none (Idle since wait) backoff now = refl
 idle_of_none (Closing since wait) backoff now = refl
@@ -89,7 +89,7 @@ of_not_older : (own leader : Option ℕ) → is_older own leader ≡ false → I
 of_not_older None leader is = tt
 of_not_older (Some node) leader is = that_is leader node (shown (is_that leader node) is)
 
--- a connection that was left is of no node
+-- a connection that was left belongs to no node
 lingers_none : (stage : Stage) (backoff : Backoff) (now : ℕ) → node_of (lingering (idle_behind stage backoff now)) ≡ None
 lingers_none (Idle since wait) backoff now = refl
 lingers_none (Closing since wait) backoff now = refl

@@ -30,7 +30,7 @@ use Rattle.driver.proofs.Quiet.{NoClaim}
 use Rattle.driver.proofs.Reporting.{awake_keeps, begins_keep, grows_keep, heard_look, stood_adds, stood_sound, words_by}
 use Rattle.driver.proofs.Served.{Turn, node_turn}
 
--- What is known of a node that was known so: the same, or that it was just told a claim.
+-- What is known of a node afterwards: the same, or that it was just asked for a claim.
 pub data Trace (n now : ℕ) (was : Option Look) (before : Ordered) (new : Driver) : Type 0 where
   Same : look_at new.monitors (n - 1) ≡ was → Trace n now was before new
   Anew :

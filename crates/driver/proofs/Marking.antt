@@ -120,12 +120,12 @@ abbrev pub claim_in : Option Look → Option Claimed
 claim_in None = None
 claim_in (Some x) = x.claimed
 
--- the last claim, if there is one, was told by such a note at the latest, by then, and is settled where this is so
+-- the last claim, if there is one, was in such a note at the latest, by then, and is settled if this is so
 abbrev pub Stale : ℕ → ℕ → Bool → Option Claimed → Type 0
 Stale note ran done None = Unit {0}
 Stale note ran done (Some claim) = (claim.note ≤ note) × (claim.at.since ≤ ran) × (done ≡ true → claim.is_settled ≡ true)
 
--- how many notes the node was told
+-- how many notes the node was sent
 abbrev pub all_of : ℕ → Driver → ℕ
 all_of n driver = slice_index (in_all driver.orders) (n - 1)
 
@@ -134,7 +134,7 @@ stale_later note ran later after done None first last s = tt
 stale_later note ran later after done (Some claim) first last (number, since, is) =
     (both_below claim.note note later number first, both_below claim.at.since ran after since last, is)
 
--- nothing is said of whether it is settled
+-- nothing is said about whether it is settled
 stale_settled : (note ran done : ℕ) (status : Status) (claim : Option Claimed) → Stale note ran false claim → Stale note ran false (settled claim status done)
 stale_settled note ran done status None s = tt
 stale_settled note ran done status (Some claim) (number, since, is) = (number, since, λ e. absurd (cc e))
@@ -157,7 +157,7 @@ trace_fits n now most was before new (Anew x claim orders is since number first 
     let at_now : claim.at.since ≤ new.ran.since = subst (λ (k : ℕ). k ≤ new.ran.since) (sym since) (subst (λ (k : ℕ). now ≤ k) (sym ran) (same_now now)) in
     subst (λ (x : Option Look). Stale (all_of n new) new.ran.since false (claim_in x)) (sym is) (own, at_now, λ e. absurd (cc e))
 
--- What holds of a node: its notes are counted, and its last claim is one of them.
+-- What holds for a node: its notes are counted, and its last claim is one of them.
 pub record Marked (n : ℕ) (driver : Driver) : Type 0 where
   pub noted : Noted n driver
   pub claim : Stale (all_of n driver) driver.ran.since false (claim_in (seen n driver))

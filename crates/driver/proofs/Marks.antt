@@ -1,4 +1,4 @@
--- What stands before the first mark.
+-- The bytes before the first mark.
 use Rattle.std.proofs.Common.{◌≡◌, ℕ, zero, suc, ◌<◌, ◌≤◌, Bool, true, false, not, List, [], ◌∷◌, take, length, get_or, refl, ap, ◌∙◌, arith}
 use Rattle.std.specs.Prelude.{◌==◌, if◌then◌else◌}
 use Rattle.std.specs.List.{take_while, list_all}
@@ -22,7 +22,7 @@ mark_at mark [] i d e h m = absurd (omega arith)
 mark_at mark (x ∷ xs) zero d e h m = take_while-cons (no_mark mark) x xs ∙ ap (λ b. if b then x ∷ take_while (no_mark mark) xs else []) m
 mark_at mark (x ∷ xs) (suc i) d e h m = while_cons mark x xs (take i xs) (and_left _ _ e) (mark_at mark xs i d (and_right ((no_mark mark) x) _ e) (omega arith) m)
 
--- all of it, where no mark stands in a front that is all of it
+-- all of it, if there is no mark in a front that is all of it
 pub no_mark_past : (mark : ℕ) (xs : List ℕ) (i : ℕ) → list_all (no_mark mark) (take i xs) ≡ true → length xs ≤ i → take_while (no_mark mark) xs ≡ xs
 no_mark_past mark [] i e h = refl
 no_mark_past mark (x ∷ xs) zero e h = absurd (omega arith)

@@ -22,7 +22,7 @@ pub last_behind : (client : Option ℕ) (orders : List Order) (order : Order) �
 last_behind client [] order = refl
 last_behind client (first ∷ orders) order = last_behind (written_by first) orders order
 
--- one more is merged, where it writes to another client than the last of those before it
+-- one more is merged, if it writes to another client than the last of those before it
 pub merged_more : (orders after : List Order) (order : Order) → after ≡ orders → are_merged orders ≡ true → are_two (written_last None orders) (written_by order) ≡ true → are_merged (after ++ order ∷ []) ≡ true
 merged_more orders after order is merged two =
     ap (λ (o : List Order). are_merged (o ++ order ∷ [])) is ∙ merged_behind None orders order ∙ ap (λ b. b && are_two (written_last None orders) (written_by order)) merged ∙ two
@@ -48,16 +48,16 @@ apart_none : (client : Option ℕ) → is_last_apart None client ≡ true → cl
 apart_none None is = refl
 apart_none (Some client) is = absurd (cc is)
 
--- where the last is no write, a write to any client is another order
+-- if the last is no write, a write to any client is another order
 pub two_behind_none : (orders : List Order) (client : ℕ) → is_last_apart None (written_last None orders) ≡ true → are_two (written_last None (orders ++ [])) (Some client) ≡ true
 two_behind_none orders client is = ap (λ (o : List Order). are_two (written_last None o) (Some client)) (append-nil orders) ∙ ap (λ (c : Option ℕ). are_two c (Some client)) (apart_none (written_last None orders) is)
 
--- where it is a write to another client, too
+-- if it is a write to another client, too
 pub two_behind_write : (orders : List Order) (order : Order) (other client : ℕ) → written_by order ≡ Some other → (other == client) ≡ false → are_two (written_last None (orders ++ order ∷ [])) (Some client) ≡ true
 two_behind_write orders order other client is two =
     ap (λ (c : Option ℕ). are_two c (Some client)) (last_behind None orders order ∙ is) ∙ ap not two
 
--- behind an order that writes to no client nothing is held apart
+-- after an order that writes to no client nothing is held apart
 pub merged_apart : (orders items : List Order) (order : Order) (last : Option Writing) → items ≡ orders ++ order ∷ [] → last ≡ None → are_merged orders ≡ true → written_by order ≡ None → (is_last_apart last (written_last None items) ≡ true) × (are_merged (items ++ write_of last) ≡ true)
 merged_apart orders items order (Some writing) is none merged other = absurd (cc none)
 merged_apart orders items order None is none merged other = (

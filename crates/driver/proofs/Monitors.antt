@@ -1,4 +1,4 @@
--- What changes of the monitors, and what does not.
+-- What changes in the monitors, and what does not.
 use Rattle.std.proofs.Common.{◌≡◌, ◌∙◌, ℕ, ◌+◌, ◌-◌, ◌<◌, ◌≤◌, List, Option, Some, None, length, refl, sym, ap, subst, set, slice_get, ⊎_elim}
 use Rattle.std.specs.Prelude.{map, option_map}
 use Rattle.std.proofs.lemmas.Bool.{cases_lt}
@@ -19,7 +19,8 @@ use Rattle.driver.specs.Retiring.{restart_at, restart_behind}
 use Rattle.driver.specs.Telling.{Ordered}
 use Rattle.driver.proofs.Growing.{by_number}
 
--- what the law of claims looks at of a monitor: its node, the last claim, and how the node stands
+-- the parts of a monitor that the law of claims looks at: its node, the last claim, and the node's
+-- state
 pub record Look : Type 0 where
   pub id : ℕ
   pub claimed : Option Claimed
@@ -35,7 +36,7 @@ look_in (Some monitor) = Some (look monitor)
 abbrev pub look_at : List NodeMonitor → ℕ → Option Look
 look_at monitors i = look_in (slice_get monitors i)
 
--- the monitor at place i is that of the node i + 1
+-- the monitor at place i belongs to node i + 1
 abbrev pub Ids : List NodeMonitor → Type 0
 Ids monitors = (i : ℕ) (x : Look) → look_at monitors i ≡ Some x → x.id ≡ i + 1
 
@@ -110,7 +111,7 @@ ids_changed change same monitors node ids = λ i x is.
     (sym (changed_own change monitors node) ∙ subst (λ (k : ℕ). look_at (changed_at change monitors node) k ≡ Some x) e is)))
     (λ apart. ids i x (sym (changed_other change monitors node i apart) ∙ is))
 
--- what the clock tells a node changes nothing of this
+-- the note of the clock changes none of this
 pub clocked_by : (orders : Ordered) (now : ℕ) (told : Option (Note TowerBody WireLine)) (d : NodeMonitor) → look (monitor_behind orders d now told) ≡ look d
 unfolding monitor_behind
 clocked_by orders now None d = refl

@@ -1,4 +1,4 @@
--- What is known of a node that the clock goes by, and which calls leave it as it is.
+-- What the clock uses of what is known of a node, and which calls leave it unchanged.
 use Rattle.std.proofs.Common.{◌≡◌, ◌∙◌, ℕ, zero, suc, ◌+◌, ◌-◌, Bool, true, false, List, [], ◌∷◌, Option, Some, None, refl, sym, ap, subst, slice_get}
 use Rattle.std.specs.Prelude.{nat_lt, option_map}
 use Rattle.wire_bytes.specs.declared.moment.Moment.{Moment}
@@ -36,7 +36,7 @@ use Rattle.driver.proofs.Staying.{other_changed, own_changed}
 use Rattle.std.proofs.lemmas.Option.{slice_get-map}
 use Rattle.wire_bytes.specs.Limits.{number_limit}
 
--- What the clock goes by.
+-- What the clock uses.
 pub record Core : Type 0 where
   pub id : ℕ
   pub status : Option Status
@@ -57,7 +57,7 @@ core d = record {
   backoff = d.backoff;
 }
 
--- what a driver goes by, and when it ran last
+-- a driver's settings, and when it last ran
 pub record Base : Type 0 where
   pub settings : Settings
   pub ran : Timer
@@ -65,13 +65,13 @@ pub record Base : Type 0 where
 abbrev pub base : Driver → Base
 base driver = record { settings = driver.settings; ran = driver.ran }
 
--- a node's monitor is behind another one, with the same of what the clock goes by
+-- a node's monitor after another one, with the same in all that the clock uses
 pub record Found (n : ℕ) (d : NodeMonitor) (new : Driver) : Type 0 where
   pub behind : NodeMonitor
   pub is : slice_get new.monitors (n - 1) ≡ Some behind
   pub same : core behind ≡ core d
 
--- Nothing changes of what the clock goes by.
+-- Nothing changes of what the clock uses.
 pub record Rests (n : ℕ) (old new : Driver) : Type 0 where
   pub based : base new ≡ base old
   pub found : (d : NodeMonitor) → slice_get old.monitors (n - 1) ≡ Some d → Found n d new
@@ -131,7 +131,7 @@ own_found n node change monitors d same is =
     subst (λ (k : ℕ). slice_get (changed_at change monitors node) k ≡ Some (change d)) (sym same)
     (changed_here node change monitors d (subst (λ (k : ℕ). slice_get monitors k ≡ Some d) same is))
 
--- of any, where the clock goes by nothing that changes
+-- of any, if the clock uses nothing that changes
 pub changed_rests : (n node : ℕ) (change : NodeMonitor → NodeMonitor) → KeepsCore change → (old new : Driver) → new.monitors ≡ changed_at change old.monitors node → base new ≡ base old → Rests n old new
 changed_rests n node change keeps old new changed based = record {
   based = based;
@@ -209,7 +209,7 @@ passes_rest n now at node (effect ∷ effects) old new (behind, p, more) =
     let last = rests_same n p.learnt behind (ap monitors_of p.rest) (ap base p.rest) in
     rests_both n old behind new (rests_both n old p.learnt behind first last) (passes_rest n now at node effects behind new more)
 
--- The nodes are looked at: one that is down is started again soon where too few are up.
+-- The nodes are looked at: one that is down is started again soon if too few are up.
 
 hang_rests : (n : ℕ) (hangs : Option ℕ) (now node : ℕ) (old new : Driver) → HangsIf hangs now node old new → Rests n old new
 hang_rests n None now node old new same = rests_by n old new same
@@ -232,7 +232,7 @@ group_rests : (n : ℕ) (tells short : Bool) (old new : Driver) → TellsGroupIf
 group_rests n false short old new same = rests_by n old new same
 group_rests n true short old new t = rests_same n old new (ap monitors_of t.rest) (ap base t.rest)
 
--- a monitor behind a look at the nodes
+-- a monitor after a look at the nodes
 abbrev pub hastened_by : Bool → NodeMonitor → NodeMonitor
 hastened_by true d = hastened d
 hastened_by false d = d
@@ -241,7 +241,7 @@ hastened_found : (n : ℕ) (short : Bool) (d : NodeMonitor) (monitors : List Nod
 hastened_found n false d monitors is = is
 hastened_found n true d monitors is = slice_get-map hastened monitors (n - 1) ∙ ap (λ (found : Option NodeMonitor). option_map hastened found) is
 
--- What comes of a look at the nodes.
+-- What a look at the nodes does.
 pub record Hastens (n : ℕ) (d : NodeMonitor) (old new : Driver) : Type 0 where
   pub short : Bool
   pub based : base new ≡ base old

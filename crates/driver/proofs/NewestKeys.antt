@@ -55,7 +55,7 @@ pub same_self : (name : List ℕ) → same_name name name ≡ true
 unfolding same_name
 same_self name = same_bytes-refl (fold_name name)
 
--- who is another than the one of two that are the same is another than the other
+-- a name that differs from one of two equal names differs from the other
 pub other_than : (name one two : List ℕ) → same_name name one ≡ false → same_name one two ≡ true → same_name name two ≡ false
 unfolding same_name
 other_than name one two other same = ap (same_as name) (sym (same_bytes-eq (fold_name one) (fold_name two) same)) ∙ other
@@ -72,7 +72,7 @@ pub rest_none : (a b : Bool) → (a || b) ≡ false → b ≡ false
 rest_none true b is = absurd (cc is)
 rest_none false b is = is
 
--- behind keys none of which is of the channel
+-- after keys none of which is of the channel
 key_past : (channel : List ℕ) (keys more : List KeyOf) → list_any (is_of channel) keys ≡ false → key_in channel (keys ++ more) ≡ key_in channel more
 key_past channel [] more none = refl
 key_past channel (known ∷ keys) more none =
@@ -100,12 +100,12 @@ newest_with channel key keys =
     key_past channel (with_room left) (record { channel = channel; key = key } ∷ []) (room_none channel (nat_le 256 (length left)) left (gone channel keys))
     ∙ ap (λ (b : Bool). if b then key else []) (same_self channel)
 
--- the keys behind those that a channel's last place stands among
+-- the keys after those that include a channel's last place
 from_append : (before more keys : List KeyOf) → learnt_from (before ++ more) keys ≡ learnt_from more (learnt_from before keys)
 from_append [] more keys = refl
 from_append (pair ∷ before) more keys = from_append before more (with_key pair.channel pair.key keys)
 
--- a channel's key stands among these, and so many behind it
+-- a channel's key is among these, with this many after it
 record Stands (pair : KeyOf) (count : ℕ) (keys : List KeyOf) : Type 0 where
   front : List KeyOf
   back : List KeyOf

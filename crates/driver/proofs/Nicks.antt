@@ -8,19 +8,19 @@ use Rattle.driver.specs.Nicks.{AreWritten, IsNamed, IsWritten, IsWrittenIf, is_m
 use Rattle.driver.specs.Rosters.{client_at}
 use Rattle.driver.specs.Telling.{Ordered, ordered}
 
--- one client is written something, and then those behind it
+-- one client is written something, and then those after it
 pub write_more : (clients : Clients) (text : List ℕ) (number : ℕ) (left more : List ℕ) (old behind new : Ordered) → left ≡ number ∷ more → IsWritten (client_at clients number) text old behind → AreWritten more clients text behind new → AreWritten left clients text old new
 unfolding AreWritten
 write_more clients text number left more old behind new is writes all =
     subst (λ (left : List ℕ). AreWritten left clients text old new) (sym is) (behind, writes, all)
 
--- where none is left nothing is written
+-- no client is left to write to
 pub write_none : (clients : Clients) (text : List ℕ) (left : List ℕ) (last : Ordered) → left ≡ [] → AreWritten left clients text last last
 unfolding AreWritten
 write_none clients text left last none =
     subst (λ (left : List ℕ). AreWritten left clients text last last) (sym none) refl
 
--- a client that is reached is written a line of this text
+-- a client that is reached is written a line with this text
 pub one_written : (found : Option Client) (client : Client) (text : List ℕ) (before after : Ordered) (line : Vec ℕ) → found ≡ Some client → is_reached client ≡ true → line.items ≡ text → after ≡ ordered before (Write client.origin.2 line ∷ []) → IsWritten found text before after
 one_written found client text before after line is reached same wrote =
     subst (λ (o : Option Client). IsWritten o text before after) (sym is)

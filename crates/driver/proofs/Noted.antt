@@ -1,4 +1,4 @@
--- The numbers of notes that are known of a node are of notes that it was told.
+-- The numbers of notes that are known of a node belong to notes that it was sent.
 use Rattle.std.proofs.Common.{◌≡◌, ◌∙◌, ℕ, zero, suc, ◌+◌, ◌-◌, ◌<◌, ◌≤◌, Bool, true, false, List, [], ◌∷◌, Option, Some, None, length, refl, sym, ap, subst, slice_get, slice_index, arith}
 use Rattle.std.specs.Prelude.{if◌then◌else◌, min, nat_eq}
 use Rattle.bouncer_tower.specs.Bodies.{TowerBody}
@@ -68,7 +68,7 @@ counts_on n told items c =
 counts_as : (n : ℕ) (old new : List ℕ) (items : List Order) → new ≡ counts old items → Counted n old → CountsOn n old new
 counts_as n old new items is c = subst (λ (all : List ℕ). CountsOn n old all) (sym is) (counts_on n old items c)
 
--- where more is ordered
+-- if more is ordered
 pub more_counts : (n : ℕ) (before after : Ordered) → More before after → Counted n (in_all before) → CountsOn n (in_all before) (in_all after)
 more_counts n before after m c =
     counts_as n (in_all before) (in_all after) m.told (ap in_all m.orders ∙ counts_append before.before before.items m.told) c
@@ -81,7 +81,7 @@ pub told_is : (n : ℕ) (orders : Ordered) → told_to orders n ≡ slice_index 
 unfolding told_to
 told_is n orders = refl
 
--- a note that was told has the next number
+-- a note that was sent has the next number
 if_one : (b : Bool) (k : ℕ) → b ≡ true → (if b then k else 0) ≡ k
 if_one true k is = refl
 if_one false k is = absurd (cc is)
@@ -134,7 +134,7 @@ hastened_beat : (short : Bool) (d : NodeMonitor) → (hastened_by short d).beat 
 hastened_beat true d = refl
 hastened_beat false d = refl
 
--- What holds of a node: its notes are counted, and the last beat is one of them.
+-- What holds for a node: its notes are counted, and the last beat is one of them.
 pub record Noted (n : ℕ) (driver : Driver) : Type 0 where
   pub in_time : InTime n driver
   pub counted : Counted n (in_all driver.orders)
@@ -162,7 +162,7 @@ found_beat : (n : ℕ) (d : NodeMonitor) (old new : Driver) (next : InTime n new
 found_beat n d old new next is fits on =
     same_beat n d new next is (both_below d.beat.note (slice_index (in_all old.orders) (n - 1)) (slice_index (in_all new.orders) (n - 1)) fits on.more)
 
--- the clock told it something
+-- the clock sent it something
 clock_beat : (n now : ℕ) (settings : Settings) (d : NodeMonitor) (old new : Driver) → (c : Clocks n now settings d old new) → d.id ≡ n → Counted n (in_all old.orders) → d.beat.note ≤ slice_index (in_all old.orders) (n - 1) → c.behind.beat.note ≤ slice_index (in_all new.orders) (n - 1)
 clock_beat n now settings d old new c id counted fits =
     let first = more_counts n old.orders c.before c.first counted in

@@ -1,4 +1,4 @@
--- What two claims of a line have between them.
+-- What happens between two claims of a line.
 use Rattle.std.proofs.Common.{◌≡◌, ◌∙◌, ◌++◌, ℕ, zero, suc, ◌+◌, ◌-◌, ◌≤◌, Bool, true, false, List, [], ◌∷◌, Option, Some, None, refl, sym, ap, subst}
 use Rattle.std.specs.Prelude.{◌||◌, nat_eq}
 use Rattle.std.specs.BTreeMap.{keys}
@@ -26,7 +26,7 @@ use Rattle.driver.proofs.Waiting.{Fresh, Outcome, Waits, or_status, outcome_keep
 use Rattle.driver.proofs.Calling.{stands_add, takes_keep, watch_keeps}
 use Rattle.driver.proofs.ClientCalls.{connect_keeps, goes_by, orders_of_call, speaks_by, more_adds}
 
--- What comes of a call.
+-- What a call does.
 pub outcome : (n : ℕ) (call : Call) (told : List Order) (old new : Driver) → 1 ≤ n → Sound n old → Does call old new → IsTold call told old.orders new.orders → Outcome n (applies_all n call) old new told
 outcome n (Connect now node) told old new low sound (low_node, c) is = outcome_keeps n false old new told (connect_keeps n now node old new sound c) is
 outcome n (Receive bytes now at number) told old new low sound s is = outcome_keeps n false old new told (speaks_by n bytes now at number (client_at old.clients number) old new refl sound s) is

@@ -1,4 +1,4 @@
--- What waits where the server gives a session: once.
+-- What waits when the server gives a session: once.
 use Rattle.std.proofs.Common.{◌≡◌, ◌∙◌, Bool, false, List, refl, sym, ap}
 use Rattle.std.specs.Prelude.{if◌then◌else◌}
 use Rattle.irc_line.specs.Lines.{Parts}

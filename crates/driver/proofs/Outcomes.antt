@@ -1,4 +1,4 @@
--- What holds where a call answers Ok.
+-- What holds if a call answers Ok.
 use Rattle.std.proofs.Common.{Result, Ok, Err}
 use Rattle.std.specs.Prelude.{OnOk}
 

@@ -19,7 +19,7 @@ use Rattle.driver.specs.Serving.{HasPassed, IsCutOff, IsParted, PartsIf, ended, 
 use Rattle.driver.specs.Silence.{IsPing}
 use Rattle.driver.specs.Telling.{Ordered, ordered}
 
--- the same of orders behind others
+-- for orders after others
 pub only_append : (origin : Origin) (xs ys : List Order) → TellsOnly origin xs → TellsOnly origin ys → TellsOnly origin (xs ++ ys)
 unfolding TellsOnly
 only_append origin [] ys own more = more
@@ -46,7 +46,7 @@ unfolding TellsOnly
 only_written origin true bytes = tt
 only_written origin false bytes = only_some origin bytes bytes.items
 
--- an operator may be told that a client left
+-- it may be logged that a client left
 pub only_left : (attached : Bool) (origin : Origin) → TellsOnly origin (left_news attached origin)
 unfolding TellsOnly
 only_left true origin = (refl, tt)
@@ -85,7 +85,7 @@ unfolding TellsOnly
 only_ping origin false orders is = subst (λ (orders : List Order). TellsOnly origin orders) (sym is) tt
 only_ping origin true orders (bytes, are, is) = subst (λ (orders : List Order). TellsOnly origin orders) (sym is) (refl, tt)
 
--- A client became another of the same origin, whose gate stands behind some calls, and what was ordered goes to its node.
+-- A client became another of the same origin, whose gate has had some calls, and what was ordered goes to its node.
 pub record Owns (s : Settings) (old : Client) (before : Ordered) (new : Client) (after : Ordered) : Type 0 where
   pub behind : List Call
   pub stands : Stands s behind new.gate
@@ -117,7 +117,7 @@ parted_own s behind at c new before after h = record {
 pub cut_own : (s : Settings) (calls : List Call) (at : Moment) (c new : Client) (before after : Ordered) → IsCutOff s calls at c before new after → Owns s c before new after
 cut_own s calls at c new before after h = parted_own s (Refused ∷ calls) at c new before after h
 
--- the same of a client of the same origin
+-- for a client of the same origin
 pub renamed : (s : Settings) (old c new : Client) (before after : Ordered) → c.origin ≡ old.origin → Owns s c before new after → Owns s old before new after
 renamed s old c new before after same h = record {
   behind = h.behind;
@@ -139,7 +139,7 @@ nothing_own s calls old new before after stands same none = record {
   own = tt;
 }
 
--- what is told first, and then
+-- what is sent first, and then
 pub both_own : (s : Settings) (old client new : Client) (before between after : Ordered) → Owns s old before client between → Owns s client between new after → Owns s old before new after
 both_own s old client new before between after first last = record {
   behind = last.behind;

@@ -24,7 +24,7 @@ use Rattle.driver.specs.Silence.{IsKept, IsSentOff, held_back, is_silent, is_to_
 use Rattle.driver.specs.Telling.{Ordered, ordered}
 use Rattle.driver.proofs.OwnOrders.{Owns, both_own, cut_own, nothing_own, only_again, only_all, only_append, only_parting, only_passed, only_ping, parts_own, passed_own, renamed}
 
--- what a gate answered went on, or is kept back
+-- what a gate answered went on, or is held back
 takes_own : (wrong : Bool) (now : ℕ) (at : Moment) (due : ℕ) (s : Settings) (calls : List Call) (fed : Fed) (c new : Client) (before after : Ordered) → TakesBy wrong s calls fed now at due c before new after → Owns s c before new after
 takes_own false now at due s calls fed c new before after (orders, stands) = record {
   behind = ended_if (is_cut fed) c.is_gone calls;

@@ -1,4 +1,4 @@
--- What comes of the end of a session for the connection to the server.
+-- What the end of a session does to the connection to the server.
 use Rattle.std.proofs.Common.{◌≡◌, ◌∙◌, ◌++◌, ℕ, ◌-◌, Bool, true, false, List, [], ◌∷◌, Option, Some, None, refl, sym, ap, subst}
 use Rattle.std.specs.Prelude.{if◌then◌else◌, nat_le}
 use Rattle.irc_line.specs.Names.{same_bytes}
@@ -44,7 +44,7 @@ gone_ending now (Closing since wait) cause = refl
 gone_ending now (Connecting node) cause = (Gone, gone_ended now cause node false, refl)
 gone_ending now (Open session) cause = (Gone, gone_ended now cause session.node session.is_opened, refl)
 
--- the node that is told that it closed, if one is
+-- the node, if there is one, that is told that the session closed
 told_closed : (now : ℕ) (c : Connection) (node : Option ℕ) → kept c ≡ c → Leads now c (closed_orders node) c
 unfolding Leads
 told_closed now c None same = refl
@@ -118,7 +118,7 @@ silent_by now c true cause stage old new is stands fits good l = leaves_go now c
 pub silent_goes : (now : ℕ) (c : Connection) (cause : Ending) (old new : Driver) → Fits c old.link → AllGood Inner old.clients → LeavesIf (is_silent old.link.stage now) now cause old new → Goes now c old new
 silent_goes now c cause old new fits good l = silent_by now c (is_silent old.link.stage now) cause old.link.stage old new refl fits.stands fits good l
 
--- A session whose node leads no more.
+-- A session whose node no longer leads.
 
 pub used_open : (c : Connection) (stage : Stage) → is_open stage ≡ true → StandsAs c stage → IsUsed c
 used_open c (Idle since wait) is stands = absurd (cc is)
@@ -139,7 +139,7 @@ quit_said Used bytes used is = ap (λ (bytes : List ℕ). said_behind (same_byte
 quit_said Told bytes used is = ap (λ (bytes : List ℕ). said_behind (same_bytes bytes quit_line) Told) is
 quit_said (Over since) bytes used is = absurd used
 
--- and then an operator
+-- and then it is logged
 told_over : (now node : ℕ) (given : Bool) → behind now (order.Log (end_of given node reason.LedNoMore)) Told ≡ Some (Over now)
 told_over now node true = refl
 told_over now node false = refl
@@ -194,7 +194,7 @@ quits_by : (now : ℕ) (c : Connection) (up : Bool) (old new : Driver) → is_op
 quits_by now c false old new is used fits good l = leaves_go now c reason.LedNoMore old new (used_closed now c used) fits good l
 quits_by now c true old new is used fits good q = quits_go now c old new is fits good q
 
--- a connection of an older leader is one
+-- a connection of an older leader is in use
 older_used : (c : Connection) (stage : Stage) (leader : Option ℕ) → is_older (node_of stage) leader ≡ true → StandsAs c stage → IsUsed c
 older_used c (Idle since wait) leader is stands = absurd (cc is)
 older_used c (Closing since wait) leader is stands = absurd (cc is)

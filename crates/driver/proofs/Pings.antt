@@ -1,4 +1,4 @@
--- A server is asked for a word.
+-- A server is sent a PING.
 use Rattle.std.proofs.Common.{◌≡◌, ℕ, true, [], ◌∷◌, Some, sym, ap, subst}
 use Rattle.std.specs.Global.{Vec}
 use Rattle.driver.specs.declared.link.Session.{Session}

@@ -1,4 +1,4 @@
--- A question who is in a channel goes behind what is said, and one of a channel waits at most.
+-- A question for who is in a channel goes after said lines, and at most one for a channel waits.
 use Rattle.std.proofs.Common.{◌≡◌, ◌∙◌, ◌++◌, Bool, true, false, not, List, [], ◌∷◌, Option, Some, None, refl, sym, ap, subst}
 use Rattle.std.specs.Prelude.{◌||◌, ◌&&◌, if◌then◌else◌, is_some, length, nat_le}
 use Rattle.driver.specs.declared.outgoing.TheConstants.{MOST_QUESTIONS}

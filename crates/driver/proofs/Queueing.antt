@@ -1,4 +1,4 @@
--- In which order lines go to the server in a session.
+-- The order in which lines go to the server in a session.
 use Rattle.std.proofs.Common.{◌≡◌, ◌∙◌, ◌++◌, ℕ, Bool, true, false, not, List, [], ◌∷◌, Option, Some, None, refl, sym, ap, subst, inl, inr}
 use Rattle.std.specs.Prelude.{◌||◌, ◌&&◌, if◌then◌else◌, is_some}
 use Rattle.std.specs.List.{list_any}
@@ -13,12 +13,12 @@ use Rattle.driver.specs.Queueing.{Drop, End, Go, Hand, IsMerged, Join, Open, Que
 abbrev is_other : Parts → Bool
 is_other line = not (asks_names line)
 
--- of what waits no question is among what is said, and nothing else is among the questions
+-- no waiting question is among said lines, and nothing else is among the questions
 pub record Sorted (waiting : Waiting) : Type 0 where
   pub said : list_any asks_names waiting.said ≡ false
   pub questions : list_any is_other waiting.questions ≡ false
 
--- and while a drop goes on nothing that is said waits
+-- and while a drop goes on no said line waits
 pub record Fine (queue : Queue) : Type 0 where
   pub sorted : Sorted queue.waiting
   pub empty : is_some queue.dropping ≡ true → queue.waiting.said ≡ []
@@ -126,7 +126,7 @@ merged_none : IsMerged [] [] []
 unfolding IsMerged
 merged_none = (refl, refl)
 
--- where none are of the other all are of the one
+-- if none are from the second, all are from the first
 pub merged_one : (ones all : List Parts) → IsMerged ones [] all → ones ≡ all
 unfolding IsMerged
 merged_one ones [] (none, others) = none
@@ -149,7 +149,7 @@ handed_fine asks false dropped line waiting is sorted = handed_sorted asks dropp
 handed_fine true true dropped line waiting is sorted = handed_sorted true dropped line waiting is sorted
 handed_fine false true dropped line waiting is sorted = sorted
 
--- what is said and waits is what goes out, and what waits behind that
+-- the said lines that wait are what goes out, and what waits after that
 pub go_out : (due : Bool) (queue : Queue) → Fine queue → said_in (piece_in (Go due) queue) ++ (behind (Go due) queue).waiting.said ≡ queue.waiting.said
 go_out due queue fine = go_said due queue.waiting.opening queue.waiting fine.sorted
 
@@ -197,7 +197,7 @@ same_said : (said handed ones others all : List Parts) → handed ≡ [] → IsM
 same_said said handed ones others all none merged =
     subst (λ (handed : List Parts). IsMerged ones others (said ++ (handed ++ all))) (sym none) merged
 
--- a line is handed out: it waits behind what waits, or it is dropped while nothing waits
+-- a line is handed out: it waits after what waits, or it is dropped while nothing waits
 hand_merged : (asks dropped : Bool) (dropping : Option ℕ) (line : Parts) (waiting : Waiting) (ones others all : List Parts) → (is_some dropping ≡ true → waiting.said ≡ [])
     → IsMerged ones others ((if is_some dropping && not asks then waiting else (if asks then (if dropped then waiting else record waiting { questions = waiting.questions ++ line ∷ [] }) else record waiting { said = waiting.said ++ line ∷ [] })).said ++ all)
     → IsMerged ones ((if is_some dropping && not asks then line ∷ [] else []) ++ others) (waiting.said ++ ((if asks then [] else line ∷ []) ++ all))
@@ -245,7 +245,7 @@ turns_merged (turn ∷ turns) queue fine =
     (sym (append_assoc (said_in (piece_in turn queue)) out last))
     (turn_merged turn queue (out ++ last) (said_dropped turns next) (said_handed turns) fine (turns_merged turns next (turn_fine turn queue fine)))
 
--- Where nobody says DROP WAITING.
+-- If nobody says DROP WAITING.
 
 hand_kept : (asks : Bool) (dropping count : Option ℕ) (line : Parts) → dropping ≡ None
     → ((if is_some dropping && not asks then count else dropping) ≡ None) × ((if is_some dropping && not asks then line ∷ [] else []) ≡ [])
@@ -268,7 +268,7 @@ turns_kept (turn ∷ turns) queue are none =
     ap (λ (lines : List Parts). lines ++ said_dropped turns (behind turn queue)) dropped
     ∙ turns_kept turns (behind turn queue) (rest_none (is_drop turn) (list_any is_drop turns) are) still
 
--- all that is said goes out, or waits
+-- all said lines go out, or wait
 pub kept_said : (turns : List Turn) (queue : Queue) → Fine queue → list_any is_drop turns ≡ false → queue.dropping ≡ None
     → said_out turns queue ++ (at_last turns queue).waiting.said ≡ queue.waiting.said ++ said_handed turns
 kept_said turns queue fine are none =

@@ -1,4 +1,4 @@
--- What a node is told but for claims, as orders that are no claims.
+-- What a node gets except claims, as orders that are no claims.
 use Rattle.std.proofs.Common.{◌≡◌, ◌∙◌, ℕ, Bool, true, false, List, [], ◌∷◌, Option, Some, None, refl, ap}
 use Rattle.std.specs.Prelude.{◌&&◌, ◌||◌, if◌then◌else◌, nat_eq}
 use Rattle.std.specs.List.{list_any}
@@ -24,7 +24,7 @@ use Rattle.driver.specs.Once.{IsFor}
 use Rattle.driver.specs.Telling.{Ordered}
 use Rattle.driver.proofs.Growing.{AllAre, all_append}
 
--- an order that tells this node no claim
+-- an order that sends this node no claim
 abbrev pub NoClaim : ℕ → Order → Type 0
 NoClaim node order = claims node order ≡ false
 
@@ -66,7 +66,7 @@ quiet_restart : (monitor : NodeMonitor) (floor : Option ℕ) → IsQuiet (restar
 quiet_restart monitor None = tt
 quiet_restart monitor (Some floor) = quiet_if _ note.Restart refl
 
--- what the clock and word of its runs tell a node
+-- the notes of the clock and of the retirement of its runs
 pub quiet_tick : (node : ℕ) (orders : Ordered) (retirements : List (Option Retirement)) (settings : Settings) (now : ℕ) (found : Option NodeMonitor) → AllAre (NoClaim node) (orders_of (tick_orders orders retirements settings now) found)
 unfolding AllAre
 quiet_tick node orders retirements settings now None = tt
@@ -98,7 +98,7 @@ quiet_client node origin (order.Send bytes) is = refl
 quiet_client node origin order.Disconnect is = refl
 quiet_client node origin (order.Log news) is = refl
 
--- no order of these is a claim
+-- none of these orders is a claim
 pub none_claims : (node : ℕ) (told : List Order) → AllAre (NoClaim node) told → list_any (claims node) told ≡ false
 unfolding AllAre
 none_claims node [] all = refl

@@ -1,4 +1,4 @@
--- What comes of orders, and of each part of a call, for the connection to the server.
+-- What orders, and each part of a call, do to the connection to the server.
 use Rattle.std.proofs.Common.{◌≡◌, ◌++◌, ℕ, false, List, [], ◌∷◌, Some, refl, sym, ap, subst}
 use Rattle.wire_bytes.specs.declared.origin.Origin.{Origin}
 use Rattle.driver.specs.declared.clients.Clients.{Clients}
@@ -20,7 +20,7 @@ use Rattle.driver.proofs.Adding.{Adds, adds_grow, nothing_adds}
 use Rattle.driver.proofs.Growing.{AllAre, AllGood, Grows}
 use Rattle.driver.proofs.Heard.{then_orders}
 
--- An order that is not of the connection.
+-- An order that does not concern the connection.
 
 abbrev pub InnerNews : News → Type 0
 InnerNews (news.Unopened node why) = ⊥
@@ -63,7 +63,7 @@ inner_kept now (order.Send bytes) c is = absurd is
 inner_kept now order.Disconnect c is = absurd is
 inner_kept now (order.Log said) c is = news_kept now said c is
 
--- what a client orders is none
+-- an order of a client does not
 client_news : (origin : Origin) (said : News) → IsFor origin (order.Log said) → InnerNews said
 client_news origin (news.Attached other) is = tt
 client_news origin (news.Left other) is = tt
@@ -93,7 +93,7 @@ inner_client origin (order.Send bytes) is = absurd is
 inner_client origin order.Disconnect is = absurd is
 inner_client origin (order.Log said) is = client_news origin said is
 
--- How the connection stands, as the driver has it.
+-- The state of the connection, as the driver has it.
 
 abbrev pub IsUsed : Connection → Type 0
 IsUsed Gone = ⊥
@@ -119,12 +119,13 @@ kept_stands c (Closing since wait) is = ap kept is
 kept_stands c (Connecting node) is = kept_used c is
 kept_stands c (Open session) is = kept_used c is
 
--- and what waits: nothing does where there is no session
+-- and what waits: nothing if there is no session
 pub record Fits (c : Connection) (link : Link) : Type 0 where
   pub stands : StandsAs c link.stage
   pub empty : is_open link.stage ≡ false → link.waiting ≡ nothing_waits
 
--- A call, or a part of it: what it orders may be ordered, and the connection stands as it has to.
+-- A call, or a part of it: what it orders may be ordered, and the state of the connection is what
+-- it has to be.
 pub record Goes (now : ℕ) (c : Connection) (old new : Driver) : Type 0 where
   pub last : Connection
   pub told : List Order
@@ -148,7 +149,7 @@ goes_both now c old mid new first last = record {
   good = last.good;
 }
 
--- orders that are not of the connection lead from it to itself
+-- orders that do not concern the connection lead from it to itself
 record Kept (now : ℕ) (c : Connection) (told : List Order) : Type 0 where
   last : Connection
   leads : Leads now c told last
@@ -165,7 +166,7 @@ inner_leads now c (o ∷ more) (is, all) =
       stands = λ stage is. rest.stands stage (kept_stands c stage is);
     }
 
--- a part that orders nothing of the connection, which fits behind it if it did before
+-- a part that orders nothing for the connection, and fits afterwards if it did before
 pub moved_goes : (now : ℕ) (c : Connection) (old new : Driver) → Fits c old.link → ((d : Connection) → Fits d old.link → Fits d new.link) → Grows Inner (told_of old) (told_of new) → Goes now c old new
 moved_goes now c old new fits moves g =
     let k = inner_leads now c g.told g.all in
@@ -193,7 +194,7 @@ same_goes now c old new fits good same =
     adds_goes now c old new fits good (ap (λ (driver : Driver). driver.link) same) (ap (λ (driver : Driver). driver.clients) same)
     (nothing_adds Inner old.orders new.orders (ap (λ (driver : Driver). driver.orders) same))
 
--- a part that orders one thing of the connection
+-- a part that orders one thing for the connection
 pub one_goes : (now : ℕ) (c next : Connection) (o : Order) (old new : Driver) → behind now o c ≡ Some next → new.orders ≡ ordered old.orders (o ∷ []) → new.clients ≡ old.clients → Fits next new.link → AllGood Inner old.clients → Goes now c old new
 unfolding Leads
 one_goes now c next o old new is orders clients fits good = record {

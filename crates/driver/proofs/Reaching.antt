@@ -43,7 +43,7 @@ use Rattle.driver.proofs.Owning.{hears_own}
 use Rattle.driver.proofs.OwnOrders.{only_append}
 use Rattle.driver.proofs.Quiet.{NoClaim}
 
--- where nothing happens
+-- if nothing happens
 same_reaches : (origin : Origin) (old new : Told) → IsSame old new → Reaches origin old new
 unfolding TellsOnly
 same_reaches origin old new (same, none) = record {
@@ -55,7 +55,7 @@ same_reaches origin old new (same, none) = record {
   };
 }
 
--- the client of the origin is no client of another one
+-- the client of the origin is not a client of another one
 others_stay : (origin : Origin) (c : Client) (old new : Told) → client_at old.clients origin.2 ≡ Some c → same_origin c.origin origin ≡ true → ((other : ℕ) → (origin.2 ≡ other → ⊥) → client_at new.clients other ≡ client_at old.clients other) → (number : ℕ) (d : Client) → client_at old.clients number ≡ Some d → same_origin d.origin origin ≡ false → client_at new.clients number ≡ Some d
 others_stay origin c old new is own others number d found apart =
     by_number origin.2 number (client_at new.clients number ≡ Some d)
@@ -84,7 +84,7 @@ reach_by : (n now : ℕ) (at : Moment) (nick : List ℕ) (origin : Origin) (effe
 reach_by n now at nick origin effect None old new is good h = same_reaches origin old new (h.nobody is)
 reach_by n now at nick origin effect (Some c) old new is good h = reach_of n now at nick origin effect c (same_origin c.origin origin) old new is refl good h
 
--- a client that the buffers close is told why
+-- a client that the buffers close gets the reason
 
 tells_none : (origin : Origin) (before after : Ordered) → after ≡ before → TellsOwn origin before after
 unfolding TellsOnly
@@ -132,7 +132,7 @@ reaches_client n now at nick origin effect old new good r =
           (evicted_own n origin effect old.clients (client_at old.clients origin.2) old.orders r.told refl good r.evicts) reaches.own;
     }
 
--- clients that are put out of a channel
+-- clients that are kicked from a channel
 
 same_open : (old new : Clients) → new ≡ old → AreSameButOpen old new
 same_open old new same = record {

@@ -1,4 +1,4 @@
--- A claim is told again in time, and a line that was not claimed is.
+-- A claim is repeated in time, and a line that was not claimed is claimed.
 use Rattle.std.proofs.Common.{◌≡◌, ◌∙◌, ℕ, ◌+◌, ◌-◌, ◌≤◌, Bool, true, false, List, [], ◌∷◌, Option, Some, None, refl, sym, ap, subst, slice_index, arith}
 use Rattle.std.specs.Prelude.{◌&&◌, ◌||◌, min, nat_eq, nat_le, not}
 use Rattle.std.specs.List.{list_any}
@@ -58,7 +58,7 @@ new_claims_in_time node now moment line told next new r not_last does (term, lea
 stale_is : (limit ran : ℕ) (done : Bool) (a b : Option Look) → b ≡ a → Stale limit ran done (claim_in a) → Stale limit ran done (claim_in b)
 stale_is limit ran done a b same s = subst (λ (x : Option Look). Stale limit ran done (claim_in x)) (sym same) s
 
--- as none is told, it stays
+-- if none is asked for, it stays
 trace_stale : (n now limit ran : ℕ) (done : Bool) (was : Option Look) (old new : Driver) (mid : Ordered) (given : List Order) → More old.orders mid → Trace n now was mid new → new.orders ≡ ordered old.orders given → list_any (claims n) given ≡ false → Stale limit ran done (claim_in was) → Stale limit ran done (claim_in (seen n new))
 trace_stale n now limit ran done was old new mid given more (Same is) orders none s = stale_is limit ran done was (seen n new) is s
 trace_stale n now limit ran done was old new mid given more (Anew x claim at is since number first last) orders none s =
@@ -83,7 +83,7 @@ and_so : (a b : Bool) → a ≡ true → b ≡ true → (a && b) ≡ true
 and_so true b is so = so
 and_so false b is so = is
 
--- it is settled by a report that tells so
+-- it is settled by a report that says so
 settled_by : (more done : Bool) (claim : Claimed) (level : ℕ) (status : Status) → (more ≡ true → claim.note ≤ level) → (more ≡ true → nat_eq status.applied status.last ≡ true) → (done ≡ true → claim.is_settled ≡ true) → (done || more) ≡ true → (claim.is_settled || (nat_le claim.note level && nat_eq status.applied status.last)) ≡ true
 settled_by more true claim level status reached applied was is =
     ap (λ (b : Bool). b || (nat_le claim.note level && nat_eq status.applied status.last)) (was refl)
@@ -99,7 +99,7 @@ settled_stale limit ran level done more status (Some claim) reached applied (num
   λ is. settled_by more done claim level status (λ so. both_below claim.note limit level number (reached so)) applied was is,
 )
 
--- What holds of a node of which no claim is told.
+-- What holds for a node that is asked for no claim.
 pub record Waits (n limit ran : ℕ) (done : Bool) (driver : Driver) : Type 0 where
   pub in_time : InTime n driver
   pub counted : Counted n (in_all driver.orders)
@@ -159,7 +159,7 @@ waits_on n limit ran done (step ∷ more) old new low high w (first, rest) none 
     subst (λ (b : Bool). Waits n limit ran b new) (sym (or_assoc done (settles n limit step.call) (settles_some n limit more)))
     (waits_on n limit ran (done || settles n limit step.call) more behind new low high next (subst (λ (k : ℕ). GoesOn k more) (sym ran_is) rest) others later)
 
--- a claim that is settled, and long ago, holds back none
+-- a claim that is settled, and long ago, holds none back
 over_by : (wait since ran now : ℕ) → since ≤ ran → ran + wait ≤ now → wait ≤ now - since
 over_by wait since ran now before late = omega (arith, before, late)
 

@@ -1,4 +1,4 @@
--- What a report of a node brings for the connection to the server.
+-- What a report of a node does to the connection to the server.
 use Rattle.std.proofs.Common.{◌≡◌, ℕ, ◌-◌, Bool, true, false, List, [], ◌∷◌, Option, Some, None, refl, sym, ap, subst, slice_get}
 use Rattle.std.specs.Prelude.{◌&&◌, if◌then◌else◌, ◌||◌}
 use Rattle.std.specs.BTreeMap.{keys}
@@ -44,7 +44,7 @@ use Rattle.driver.proofs.Growing.{AllAre, AllGood, Grows, all_append, cuts_grow,
 use Rattle.driver.proofs.Quitting.{Fits, Goes, Inner, StandsAs, adds_goes, goes_both, inner_goes, moved_goes, same_fits, same_goes}
 use Rattle.driver.proofs.Used.{node_goes, not_both, of_inner}
 
--- What waits changes in a session alone.
+-- What waits changes only in a session.
 
 session_open : (stage : Stage) (node : ℕ) → is_session_of stage node ≡ true → is_open stage ≡ true
 session_open (Idle since wait) node is = absurd (cc is)

@@ -37,7 +37,7 @@ use Rattle.driver.proofs.Growing.{AllAre, AllGood, Grows, all_append, by_number,
 use Rattle.driver.proofs.Quiet.{NoClaim}
 use Rattle.driver.proofs.Waiting.{Outcome, Waits, or_status, outcome_of, waits_kept}
 
--- What is known of a node behind a report of it.
+-- What is known of a node after a report of it.
 
 pub down_look : (d : NodeMonitor) (now : ℕ) (down : Option Outage) → look (down_behind d now down) ≡ look d
 down_look d now None = refl
@@ -51,7 +51,7 @@ pub stood_look : (d : NodeMonitor) (now : ℕ) (new up : Bool) (down : Option Ca
 stood_look d now new up None = up_look d now new up
 stood_look d now new up (Some cause) = down_look d now d.down
 
--- a node that does not tell that it has applied all leaves its last claim unsettled
+-- a node that does not report that it has applied all leaves its last claim unsettled
 pub unsettled_by : (claim : Claimed) (done : Bool) (status : Status) → claim.is_settled ≡ false → nat_eq status.applied status.last ≡ false → (claim.is_settled || (done && nat_eq status.applied status.last)) ≡ false
 unsettled_by claim true status is apart = ap (λ (b : Bool). b || nat_eq status.applied status.last) is ∙ apart
 unsettled_by claim false status is apart = ap (λ (b : Bool). b || false) is
@@ -75,11 +75,11 @@ waits_heard_by n line old new now counts status progress (Some d) apart w is cha
       unsettled = unsettled_by w.claim (nat_le w.claim.note done) status w.unsettled apart;
     }
 
--- where two things are, the second is where the first is
+-- if two things are, the second is if the first is
 pub second_false : (a b : Bool) → a ≡ true → (a && b) ≡ false → b ≡ false
 second_false a b is not_so = sym (ap (λ (x : Bool). x && b) is) ∙ not_so
 
--- A report of a node that does not tell that it has applied all leaves what waits.
+-- A report of a node that does not say that it has applied all leaves what waits.
 pub stood_waits : (n now node : ℕ) (status : Status) (progress : Progress) (refused : Bool) (line : Line) (old new : Driver) → 1 ≤ n → 1 ≤ node → (nat_eq node n && nat_eq status.applied status.last) ≡ false → Stands now node status progress refused old new → Waits n line old → Waits n line new
 stood_waits n now node status progress refused line old new low low_node apart s w =
     let change : NodeMonitor → NodeMonitor = λ d. heard_behind d now (told_to old.orders d.id) status progress in
@@ -130,7 +130,7 @@ news_quiet n status (Some d) =
     (if_quiet n (is_elected d status) (Elected d.id status.term))
     (stood_quiet n d status status.down)
 
--- what is known behind it
+-- what is known after it
 pub stood_sound : (n now node : ℕ) (status : Status) (progress : Progress) (refused : Bool) (old new : Driver) → Sound n old → Stands now node status progress refused old new → Sound n new
 stood_sound n now node status progress refused old new sound s = record {
   good = subst (λ (clients : Clients). AllGood (NoClaim n) clients) (sym (ap (λ (driver : Driver). driver.clients) s.rest)) sound.good;

@@ -1,4 +1,4 @@
--- A node that is down is told to start again in time.
+-- A node that is down is asked to start again in time.
 use Rattle.std.proofs.Common.{◌≡◌, ◌∙◌, ◌⊎◌, inl, inr, ℕ, ◌+◌, ◌-◌, ◌<◌, ◌≤◌, Bool, true, false, List, Option, Some, None, refl, sym, ap, subst, ⊎_elim, arith}
 use Rattle.std.specs.Prelude.{if◌then◌else◌, is_some, min, nat_le}
 use Rattle.std.specs.List.{list_any}
@@ -73,7 +73,7 @@ woken_down n moment now old d w = record {
   in_time = w.in_time;
 }
 
--- a node that is down told so again
+-- a node that is down reports so again
 down_kept : (d : NodeMonitor) (now : ℕ) (down : Option Outage) (o : Outage) → d.down ≡ down → down ≡ Some o → (down_behind d now down).down ≡ Some o
 down_kept d now None o is so = absurd (cc so)
 down_kept d now (Some since) o is so = is ∙ so
@@ -93,7 +93,7 @@ heard_down n moment now told status progress d so w = record {
   in_time = w.in_time;
 }
 
--- what the clock tells it
+-- the note that the clock sends it
 note_down : (d : NodeMonitor) (settings : Settings) (now : ℕ) (status : Status) (o : Outage) → d.status ≡ Some status → d.down ≡ Some o → note_at d settings now ≡ (if is_over o.since o.wait_ms now then Some note.Restart else None)
 unfolding note_for
 note_down d settings now status o is down =
@@ -106,7 +106,7 @@ none_behind orders settings now d none = ap (λ (came : Option (Note TowerBody W
 early : (since wait now moment : ℕ) → now - since < wait → since + wait ≤ moment → now < moment
 early since wait now moment before fits = omega (arith, before, fits)
 
--- Behind the clock it was told to start again, or waits on.
+-- After the clock it was asked to start again, or waits on.
 abbrev pub Ticks : ℕ → ℕ → Settings → List Order → ℕ → Driver → Type 0
 Ticks n moment settings told now new = (list_any (restarts n) told ≡ true) ⊎ ((nat_le moment now ≡ false) × Waits n (IsDown n moment) settings new)
 
@@ -132,7 +132,7 @@ clock_down n moment now settings d old new given c w goes_by orders =
     let own = subst (λ (k : Core). IsDown n moment k) (sym c.from) w in
     clock_by n moment now settings d old new given c own (is_over own.outage.since own.outage.wait_ms now) refl goes_by orders
 
--- where a call is no tick it does not pass to the moment
+-- a call that is no tick does not pass to the moment
 own_comes : (n moment now : ℕ) (settings : Settings) (call : Call) (told : List Order) (new : Driver) → ticks_by moment call ≡ false → Ticks n moment settings told now new → Comes n (IsDown n moment) (restarts n) moment settings call told new
 own_comes n moment now settings call told new quiet t = ⊎_elim (λ told. inl told) (λ waits. inr (quiet, waits.1)) t
 
@@ -160,7 +160,7 @@ advance n moment settings call told d old new goes_by w fit is (Passed now ran t
     tick_comes n moment now settings call told new (ticks moment)
     (clock_down n moment now settings (woken old now d) old new told c (woken_down n moment now old d w) (ap (λ (b : Base). b.settings) t.based ∙ goes_by) (given told is))
 
--- where it begins
+-- at the beginning
 
 abbrev pub or_status : Status → Option Status → Status
 or_status status None = status

@@ -1,4 +1,4 @@
--- What a node may be told that is down, or up, and how orders lead from the one to the other.
+-- What a node that is down, or up, may get, and how orders lead from one state to the other.
 use Rattle.std.proofs.Common.{◌≡◌, ◌++◌, ℕ, Bool, true, false, not, List, [], ◌∷◌, refl, sym, ap, subst}
 use Rattle.std.specs.Prelude.{◌&&◌, ◌||◌, nat_eq}
 use Rattle.std.specs.List.{list_any}
@@ -18,7 +18,7 @@ use Rattle.driver.specs.Once.{IsFor}
 use Rattle.driver.proofs.Claiming.{same_eq}
 use Rattle.driver.proofs.Growing.{AllAre, Good}
 
--- a node of its own is told, while it is down, only to start again
+-- a node of its own gets only restarts while it is down
 abbrev pub OnlyRestart : Bool → Bool → Note TowerBody WireLine → Type 0
 OnlyRestart true true came = came ≡ note.Restart
 OnlyRestart true false came = Unit {0}
@@ -28,7 +28,7 @@ abbrev pub Fits : ℕ → Bool → Order → Type 0
 Fits n down (order.Submit other came) = OnlyRestart down (nat_eq other n) came
 Fits n down other = Unit {0}
 
--- whether the node is down behind what an operator is told, and behind an order
+-- whether the node is down after a log line, and after an order
 abbrev pub down_said : ℕ → Bool → News → Bool
 down_said n down (news.Down other cause) = down || nat_eq other n
 down_said n down (news.Up other boot) = down && not (nat_eq other n)
@@ -43,7 +43,7 @@ unfoldable pub Follows : ℕ → Bool → List Order → Bool → Type 0
 Follows n down [] last = down ≡ last
 Follows n down (o ∷ more) last = Fits n down o × Follows n (down_by n down o) more last
 
--- an order that fits, and behind which the node stands as before
+-- an order that fits, and after which the node has the same state
 abbrev pub Plain : ℕ → Bool → Order → Type 0
 Plain n down o = Fits n down o × (down_by n down o ≡ down)
 
@@ -58,7 +58,7 @@ unfolding Follows
 follows_both n down between last [] ys same more = subst (λ (b : Bool). Follows n b ys last) (sym same) more
 follows_both n down between last (x ∷ xs) ys (fits, first) more = (fits, follows_both n (down_by n down x) between last xs ys first more)
 
--- what stands behind the first orders
+-- what follows the first orders
 pub record Behind (n : ℕ) (ys : List Order) (last : Bool) : Type 0 where
   pub down : Bool
   pub follows : Follows n down ys last
@@ -68,7 +68,7 @@ unfolding Follows
 follows_behind n down last [] ys follows = record { down = down; follows = follows }
 follows_behind n down last (x ∷ xs) ys (fits, more) = follows_behind n (down_by n down x) last xs ys more
 
--- a node that was down is down behind an order that does not tell that it is up
+-- a node that was down is down after an order that does not log that it is up
 said_still : (n : ℕ) (said : News) → tells_up n (order.Log said) ≡ false → down_said n true said ≡ true
 said_still n (news.Attached origin) is = refl
 said_still n (news.Left origin) is = refl
@@ -118,7 +118,7 @@ or_true : (down b : Bool) → b ≡ true → (down || b) ≡ true
 or_true true b is = refl
 or_true false b is = is
 
--- Between the news that a node is down and the next one that it is up, what it is told is to start again.
+-- Between the news that a node is down and the next that it is up, its notes are to start again.
 pub restarts_between : (n : ℕ) (cause : Cause) (came : Note TowerBody WireLine) (last : Bool) (before between behind : List Order) → Follows n false (before ++ (order.Log (news.Down n cause) ∷ (between ++ (order.Submit n came ∷ behind)))) last → list_any (tells_up n) between ≡ false → came ≡ note.Restart
 unfolding Follows
 restarts_between n cause came last before between behind follows none =

@@ -1,4 +1,4 @@
--- What leaves a node as it stands, up or down: the end of a session, claims, and the turns of all nodes.
+-- What leaves a node in its state, up or down: the end of a session, claims, and the turns of all nodes.
 use Rattle.std.proofs.Common.{◌≡◌, ◌∙◌, ◌++◌, ℕ, zero, suc, ◌+◌, ◌-◌, ◌≤◌, Bool, true, false, List, [], ◌∷◌, Option, Some, None, refl, sym, ap, subst, slice_get}
 use Rattle.std.specs.BTreeMap.{keys}
 use Rattle.std.specs.Prelude.{◌&&◌, if◌then◌else◌, is_some, nat_eq}
@@ -50,13 +50,13 @@ pub up_by : (down : Bool) (found : Option NodeMonitor) → StandsAs down found �
 up_by down None at up = at
 up_by down (Some d) (is, so) up = sym so ∙ up_so d.status up
 
--- the node itself, where it is up in some run
+-- the node itself, if it is up in some run
 pub up_own : (n m : ℕ) (down : Bool) (monitors : List NodeMonitor) → StandsAs down (slice_get monitors (n - 1)) → is_some (boot_up (status_at monitors m)) ≡ true → nat_eq m n ≡ true → down ≡ false
 up_own n m down monitors at up own =
     let same : m ≡ n = eqb-true m n own in
     up_by down (slice_get monitors (n - 1)) at (subst (λ (k : ℕ). is_some (boot_up (status_at monitors k)) ≡ true) same up)
 
--- and where it leads
+-- and if it leads
 leads_none : (role : Role) (down : Option Cause) → leads_up role down ≡ true → is_some down ≡ false
 leads_none Leader None is = refl
 leads_none Leader (Some cause) is = absurd (cc is)
@@ -164,7 +164,7 @@ older_stays : (n : ℕ) (leaves : Bool) (now : ℕ) (down : Bool) (old new : Dri
 older_stays n false now down old new steady same = same_stays n down old new steady same
 older_stays n true now down old new steady q = quits_stay n (is_open old.link.stage) now down old new steady q
 
--- and the monitors are as they were
+-- and the monitors are unchanged
 quits_monitors : (is : Bool) (now : ℕ) (old new : Driver) → QuitsIf is now old new → new.monitors ≡ old.monitors
 quits_monitors false now old new l = ap (λ (driver : Driver). driver.monitors) l.ends.rest ∙ ap (λ (driver : Driver). driver.monitors) l.rest
 quits_monitors true now old new q =

@@ -1,4 +1,4 @@
--- What waits of a client behind one call waited before, or was told by it.
+-- What waits of a client after one call waited before, or was sent by it.
 use Rattle.std.proofs.Common.{◌≡◌, ◌∙◌, ◌++◌, ℕ, Bool, true, false, List, [], ◌∷◌, Option, refl, sym, ap, subst, ⊎_elim}
 use Rattle.std.specs.Prelude.{◌||◌, if◌then◌else◌}
 use Rattle.std.proofs.lemmas.List.{append_assoc, append-nil}
@@ -21,7 +21,7 @@ use Rattle.driver.proofs.Asking.{told_asked}
 use Rattle.driver.proofs.AskedOnce.{told_append, told_by, told_written}
 use Rattle.driver.proofs.Among.{among_all, among_as, among_both, among_left, among_then, closed_told, end_waiting, ended_told, feed_waiting, from_as, hear_waiting, refused_waiting, waiting_of}
 
--- What waits of a client waited before, or was told meanwhile.
+-- What waits of a client waited before, or was sent meanwhile.
 pub record Retells (s : Settings) (calls : List Call) (before : Ordered) (new : Client) (after : Ordered) : Type 0 where
   pub behind : List Call
   pub stands : Stands s behind new.gate
@@ -60,7 +60,7 @@ passed_retells s calls behind answer now at c new before after some h = record {
   among = fed_told s calls behind c at h.fed (given_as s calls behind answer h.fed h.is some);
 }
 
--- it is parted from
+-- it is closed
 parted_retells : (s : Settings) (calls behind : List Call) (at : Moment) (c new : Client) (before after : Ordered) → waiting_of s behind ≡ waiting_of s calls → IsParted at s behind c before new after → Retells s calls before new after
 parted_retells s calls behind at c new before after same h =
     let told = parting_unless c.is_gone c.is_attached c.origin at (last_request (gate s behind)) in
@@ -77,7 +77,7 @@ parted_retells s calls behind at c new before after same h =
 cut_retells : (s : Settings) (calls : List Call) (at : Moment) (c new : Client) (before after : Ordered) → IsCutOff s calls at c before new after → Retells s calls before new after
 cut_retells s calls at c new before after h = parted_retells s calls (Refused ∷ calls) at c new before after (refused_waiting s calls) h
 
--- nothing came of it
+-- nothing changed
 pub nothing_retells : (s : Settings) (calls : List Call) (old new : Client) (before after : Ordered) → Stands s calls old.gate → new ≡ old → after ≡ before → Retells s calls before new after
 nothing_retells s calls old new before after stands same none = record {
   behind = calls;
@@ -87,7 +87,7 @@ nothing_retells s calls old new before after stands same none = record {
   among = among_left (waiting_of s calls) [];
 }
 
--- what is told first, and then
+-- what is sent first, and then
 pub both_retell : (s : Settings) (calls : List Call) (before between after : Ordered) (client new : Client) → (first : Retells s calls before client between) → Retells s first.behind between new after → Retells s calls before new after
 both_retell s calls before between after client new first last = record {
   behind = last.behind;

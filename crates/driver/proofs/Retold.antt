@@ -1,4 +1,4 @@
--- Each request of a client that waits is told behind the last loss.
+-- Each waiting request of a client is sent after the last loss.
 use Rattle.std.proofs.Common.{◌≡◌, ◌∙◌, ◌++◌, ℕ, Bool, true, false, List, [], ◌∷◌, refl, sym, ap, subst}
 use Rattle.std.specs.Prelude.{if◌then◌else◌}
 use Rattle.std.proofs.lemmas.List.{append_assoc}
@@ -22,7 +22,7 @@ use Rattle.driver.proofs.AskedOnce.{told_append, told_asks}
 use Rattle.driver.proofs.Among.{among_as, among_left, waiting_of}
 use Rattle.driver.proofs.Retelling.{Retells, both_retell, dismissed_retells, hears_retell, lost_retells, nothing_retells, reads_retell}
 
--- what waits is asked again, or is not
+-- what waits is sent again, or is not
 asked_gate : (again : Bool) (c : Client) (note now : ℕ) (s : Settings) (calls : List Call) → Stands s calls c.gate → Stands s calls (anew_if again (record { note = note; at = record { since = now } }) c).gate
 asked_gate true c note now s calls stands = stands
 asked_gate false c note now s calls stands = stands
@@ -102,7 +102,7 @@ all_retell (h ∷ more) s calls old new before after (client, orders, happens, r
     let last = all_retell more s first.behind client new orders after rest first.stands in
     both_retell s calls before orders after client new first last
 
--- With the report all is told again.
+-- With the report all is sent again.
 lost_told : (again : Bool) (origin : Origin) (at : Moment) (requests : List Request) → again ≡ true → numbers_told (if again then asks_of origin at requests else []) ≡ numbers_of requests
 lost_told true origin at requests is = told_asks origin at requests
 lost_told false origin at requests is = absurd (cc is)

@@ -17,7 +17,8 @@ use Rattle.driver.proofs.Quiet.{NoClaim}
 use Rattle.driver.proofs.Reporting.{awake_keeps, grows_keep, spreads_by}
 use Rattle.driver.proofs.Stood.{Goes, awake_goes, goes_both, goes_leader, goes_of, leaves_goes, left_goes, node_goes, node_leads, pace_of, settings_of, waiting_of}
 
--- A node's turn to be served, and what is so of it where this node leads in the greatest term.
+-- A node's turn to be served, and what holds for it if this node is the leader of the greatest
+-- term.
 pub record Turn (n now : ℕ) (old new : Driver) : Type 0 where
   pub here : Driver
   pub keeps : Keeps n old here

@@ -20,7 +20,7 @@ use Rattle.driver.specs.Schedule.{tells_of_none}
 use Rattle.driver.proofs.Clocks.{woken}
 use Rattle.driver.proofs.Moves.{Core, core, hastened_by}
 
--- A node is up and hears of no leader; when the driver ran last, this was left of its wait.
+-- A node is up and hears of no leader; when the driver last ran, this was left of its wait.
 pub record IsSilent (n term contacts : ℕ) (settings : Settings) (ran left : ℕ) (c : Core) : Type 0 where
   pub id : c.id ≡ n
   pub is_up : c.down ≡ None
@@ -69,7 +69,7 @@ woken_silent n term contacts left now old d goes w = record {
   enough = later_enough d.following.last_leader_contact.since old.ran.since now (old.settings.timeout_ms / 2) (old.settings.timeout_ms + APART * n) left w.before goes w.enough;
 }
 
--- A report tells of no leader.
+-- A report of no leader.
 pub record OfNone (term contacts : ℕ) (status : Status) (progress : Progress) : Type 0 where
   pub stands : is_some status.down ≡ false
   pub follows : leads status ≡ false
@@ -138,7 +138,7 @@ pub or_last : (a b : Bool) → a ≡ false → (a || b) ≡ true → b ≡ true
 or_last true b none is = absurd (cc none)
 or_last false b none is = is
 
--- what is known of it behind such a report
+-- what is known of it after such a report
 told_silent : (n term contacts : ℕ) (settings : Settings) (ran left : ℕ) (status : Status) (m : NodeMonitor) (new up : Bool) (cause : Option Cause) → up ≡ true → is_some cause ≡ false → m.id ≡ n → m.status ≡ Some status → OfNone term contacts status m.progress → m.progress.contacts ≡ contacts → m.following.last_leader_contact.since ≤ ran → settings.timeout_ms + APART * n ≤ (ran - m.following.last_leader_contact.since) + left → (now : ℕ) → IsSilent n term contacts settings ran left (core (stood_behind m now new up cause))
 told_silent n term contacts settings ran left status m new true None is so id here o heard before enough now = record {
   id = id;

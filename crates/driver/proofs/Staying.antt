@@ -1,4 +1,4 @@
--- What leaves a node as it stands, up or down, and what it is told by time.
+-- What leaves a node in its state, up or down, and what time sends it.
 use Rattle.std.proofs.Common.{◌≡◌, ◌∙◌, ℕ, ◌+◌, ◌-◌, ◌≤◌, Bool, true, false, List, Option, Some, None, refl, sym, ap, subst, slice_get, arith}
 use Rattle.std.specs.Prelude.{◌&&◌, if◌then◌else◌, is_some, nat_eq, option_map}
 use Rattle.std.proofs.lemmas.Bool.{eqb-true}
@@ -23,7 +23,7 @@ use Rattle.driver.proofs.Monitors.{Ids, Look, get_other, get_same, ids_changed, 
 use Rattle.driver.proofs.Growing.{AllAre, AllGood, Grows, all_append, by_number}
 use Rattle.driver.proofs.Restarts.{Plain, told_only}
 
--- a node that stood so when it was last heard of is down
+-- a node in this state when it was last heard from is down
 abbrev pub is_down_so : Option Status → Bool
 is_down_so None = false
 is_down_so (Some status) = is_some status.down
@@ -33,13 +33,13 @@ abbrev pub StandsAs : Bool → Option NodeMonitor → Type 0
 StandsAs down None = down ≡ false
 StandsAs down (Some d) = (is_some d.down ≡ down) × (is_down_so d.status ≡ down)
 
--- Of a node that is down, or up, the driver knows it, and what each client orders fits.
+-- The driver knows that a node is down, or up, and what each client orders fits.
 pub record Steady (n : ℕ) (down : Bool) (driver : Driver) : Type 0 where
   pub good : AllGood (Plain n down) driver.clients
   pub ids : Ids driver.monitors
   pub at : StandsAs down (slice_get driver.monitors (n - 1))
 
--- What was ordered fits, and the node stands as before.
+-- What was ordered fits, and the node's state is unchanged.
 pub record Stays (n : ℕ) (down : Bool) (old new : Driver) : Type 0 where
   pub adds : Adds (Plain n down) old.orders new.orders
   pub steady : Steady n down new
@@ -56,7 +56,7 @@ stays_both n down old behind new first last = record {
   steady = last.steady;
 }
 
--- where the monitors and the clients stay
+-- if the monitors and the clients stay
 pub orders_stay : (n : ℕ) (down : Bool) (old new : Driver) → Steady n down old → new.monitors ≡ old.monitors → new.clients ≡ old.clients → Adds (Plain n down) old.orders new.orders → Stays n down old new
 orders_stay n down old new steady monitors clients adds = record {
   adds = adds;
@@ -67,7 +67,7 @@ orders_stay n down old new steady monitors clients adds = record {
   };
 }
 
--- where the monitors stay
+-- if the monitors stay
 pub grows_stay : (n : ℕ) (down : Bool) (old new : Driver) → Steady n down old → new.monitors ≡ old.monitors → Grows (Plain n down) (told_of old) (told_of new) → Stays n down old new
 grows_stay n down old new steady monitors g = record {
   adds = record { told = g.told; orders = g.orders; all = g.all };
@@ -107,7 +107,7 @@ changed_as n node down change monitors keeps at =
     subst (λ (found : Option NodeMonitor). StandsAs down found)
     (sym (other_changed change monitors (node - 1) (n - 1) (slice_get monitors (node - 1)) apart)) at)
 
--- the monitor of the node itself is known to stand so
+-- the monitor of the node itself has this state
 pub own_stands : (n node : ℕ) (down : Bool) (monitors : List NodeMonitor) (d : NodeMonitor) → 1 ≤ n → Ids monitors → StandsAs down (slice_get monitors (n - 1)) → slice_get monitors (node - 1) ≡ Some d → nat_eq d.id n ≡ true → StandsAs down (Some d)
 own_stands n node down monitors d low ids at is own =
     let id : d.id ≡ node - 1 + 1 = ids (node - 1) (look d) (ap look_in is) in
@@ -115,7 +115,7 @@ own_stands n node down monitors d low ids at is own =
     let place : node - 1 ≡ n - 1 = omega (arith, id, same) in
     subst (λ (found : Option NodeMonitor). StandsAs down found) (subst (λ (k : ℕ). slice_get monitors k ≡ Some d) place is) at
 
--- What the clock and word of its runs tell a node.
+-- The notes of the clock and of the retirement of its runs.
 
 -- nothing, or to start again
 abbrev pub IsRestart : Option (Note TowerBody WireLine) → Type 0
@@ -141,7 +141,7 @@ clock_only d settings now None down is = tt
 clock_only d settings now (Some status) (Some outage) is = restart_or (is_over outage.since outage.wait_ms now)
 clock_only d settings now (Some status) None is = absurd (cc is)
 
--- where two things are so, each is
+-- if two things hold, each does
 both_first : (a b : Bool) → (a && b) ≡ true → a ≡ true
 both_first true b is = refl
 both_first false b is = absurd (cc is)
@@ -161,7 +161,7 @@ tick_plain n down node orders retirements settings now monitors (Some d) low ids
     clock_only d settings now d.status d.down (here ∙ both_first down (nat_eq d.id n) both)))
     (note_plain n down behind.id (restart_at retirements behind) (λ both. outlived_only behind _))
 
--- what the clock changes of a monitor leaves whether its node is down
+-- what the clock changes in a monitor does not change whether its node is down
 restarted_down : (b : Bool) (orders : Ordered) (d : NodeMonitor) (now : ℕ) (outage : Outage) → d.down ≡ Some outage → is_some (monitor_behind orders d now (if b then Some note.Restart else None)).down ≡ is_some d.down
 unfolding monitor_behind
 restarted_down true orders d now outage is = sym (ap (λ (down : Option Outage). is_some down) is)

@@ -1,4 +1,4 @@
--- What a claim goes by stays until the turn of the node that leads in the greatest term, and so does that this node leads.
+-- What a claim depends on stays until the turn of the leader of the greatest term, and this node stays that leader.
 use Rattle.std.proofs.Common.{◌≡◌, ◌∙◌, ℕ, ◌-◌, Bool, true, false, List, [], Option, Some, None, refl, sym, ap, subst, slice_get}
 use Rattle.irc_line.specs.Lines.{Parts}
 use Rattle.driver.specs.declared.driver.Driver.{Driver}
@@ -21,7 +21,7 @@ use Rattle.driver.proofs.Leading.{leader_kept, only_leader}
 use Rattle.driver.proofs.Monitors.{Look, changed_same, look_at, look_in, mapped_same, ticked_look}
 use Rattle.driver.proofs.Moves.{monitors_of}
 
--- What a claim goes by stays.
+-- What a claim depends on stays.
 pub record Goes (now : ℕ) (old new : Driver) : Type 0 where
   pub looks : (j : ℕ) → look_at new.monitors j ≡ look_at old.monitors j
   pub free : IsFree now old → IsFree now new
@@ -105,7 +105,7 @@ leaves_goes true now why old new l = record {
   settings = ap settings_of l.ends.rest ∙ ap settings_of l.rest;
 }
 
--- Where it is of an older leader it is left.
+-- If it belongs to an older leader it is left.
 
 quits_goes : (quits : Bool) (now : ℕ) (old new : Driver) → QuitsIf quits now old new → Goes now old new
 quits_goes false now old new l = leaves_goes true now LedNoMore old new l
@@ -126,7 +126,7 @@ left_goes now node old new t =
     goes_both now old t.told t.left (monitor_goes now node old t.told t.ticks)
     (older_goes (is_older (node_of t.told.link.stage) t.leader) now t.told t.left t.leaves)
 
--- The node that leads in the greatest term is served in its turn, and no other node is.
+-- The leader of the greatest term is served in its turn, and no other node is.
 
 abbrev look_term : Option Look → Option ℕ
 look_term None = None

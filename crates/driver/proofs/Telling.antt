@@ -1,4 +1,4 @@
--- How many notes each node was told, one order more.
+-- How many notes each node was sent, with one order more.
 use Rattle.std.proofs.Common.{◌≡◌, ◌∙◌, ℕ, ◌-◌, List, [], ◌∷◌, ◌++◌, refl, sym, ap, set}
 use Rattle.std.proofs.lemmas.List.{append_assoc}
 use Rattle.bouncer_tower.specs.Bodies.{TowerBody}
@@ -8,13 +8,13 @@ use Rattle.driver.specs.declared.order.Order.{Order}
 use Rattle.driver.specs.declared.order.Order.TheVariants.{Submit}
 use Rattle.driver.specs.Telling.{Ordered, counted, counts, next_note, ordered, told_to}
 
--- the last order counts behind those before it
+-- the last order counts after those before it
 pub counts_push : (told : List ℕ) (items : List Order) (order : Order) → counts told (items ++ order ∷ []) ≡ counted (counts told items) order
 unfolding counts
 counts_push told [] order = refl
 counts_push told (item ∷ items) order = counts_push (counted told item) items order
 
--- a node that is told a note more has the note's number as its count
+-- a node that is sent one more note has the note's number as its count
 pub tell_counts : (told before : List ℕ) (items : List Order) (node : ℕ) (note : Note TowerBody WireLine) (number : ℕ) → told ≡ counts before items → number ≡ next_note (record { before = before; items = items }) node → set told (node - 1) number ≡ counts before (items ++ Submit node note ∷ [])
 unfolding told_to
 tell_counts told before items node note number is next =
@@ -22,7 +22,7 @@ tell_counts told before items node note number is next =
     ∙ ap (λ (number : ℕ). set (counts before items) (node - 1) number) next
     ∙ sym (counts_push before items (Submit node note))
 
--- two orders, one after another, and more behind them
+-- two orders, one after another, and more after them
 pub two_and_more : (orders : Ordered) (first second : Order) (more : List Order) → ordered (ordered (ordered orders (first ∷ [])) (second ∷ [])) more ≡ ordered orders (first ∷ second ∷ more)
 two_and_more orders first second more =
     ap (λ (items : List Order). record orders { items = items })

@@ -1,4 +1,4 @@
--- What holds of each monitor of a driver as time goes on.
+-- What holds for each monitor of a driver as time goes on.
 use Rattle.std.proofs.Common.{◌≡◌, ◌∙◌, ℕ, zero, suc, ◌-◌, ◌≤◌, Bool, true, false, List, [], ◌∷◌, Option, Some, None, refl, sym, ap, subst, slice_get, arith}
 use Rattle.std.specs.Prelude.{if◌then◌else◌, is_some}
 use Rattle.node_notes.specs.declared.note.Note.TheVariants as note
@@ -29,7 +29,7 @@ use Rattle.driver.proofs.OneClaim.{new_sound, outcome}
 use Rattle.driver.proofs.Staying.{is_down_so}
 use Rattle.driver.proofs.Timers.{Timely, clocked_timely, first_fits, hastened_timely, heard_timely, same_least, shortened_some, woken_timely}
 
--- A node is known to be down where it told so, and to be up else.
+-- A node is known to be down if it reported so, and to be up else.
 
 abbrev pub Stands : Core → Type 0
 Stands c = is_some c.down ≡ is_down_so c.status
@@ -63,7 +63,7 @@ clocked_stands now settings orders d s = clocked_stands_by now settings orders d
 heard_stands_so : (now told : ℕ) (status : Status) (progress : Progress) (d : NodeMonitor) → Stands (core (heard_behind d now told status progress))
 heard_stands_so now told status progress d = let (here, so) = heard_stands d now told status progress in here ∙ sym so
 
--- What holds of a node, of which there is a monitor.
+-- What holds for a node that has a monitor.
 pub record InTime (n : ℕ) (driver : Driver) : Type 0 where
   pub own : NodeMonitor
   pub is : slice_get driver.monitors (n - 1) ≡ Some own
@@ -71,7 +71,7 @@ pub record InTime (n : ℕ) (driver : Driver) : Type 0 where
   pub timely : Timely n driver.ran.since driver.settings (core own)
   pub stands : Stands (core own)
 
--- where the driver goes by the same
+-- if the driver's settings are the same
 based_timely : (n : ℕ) (c : Core) (old new : Driver) → base new ≡ base old → Timely n old.ran.since old.settings c → Timely n new.ran.since new.settings c
 based_timely n c old new based t = subst (λ (b : Base). Timely n b.ran.since b.settings c) (sym based) t
 
@@ -128,7 +128,7 @@ pub call_in_time : (n : ℕ) (call : Call) (told : List Order) (old new : Driver
 call_in_time n call told old new low high i goes does is =
     event_in_time n call old new i (outcome n call told old new low i.sound does is).sound goes (event n call i.own old new low high i.sound i.is does)
 
--- when the driver ran last
+-- when the driver last ran
 ran_is : (n : ℕ) (call : Call) (d : NodeMonitor) (old new : Driver) → Event n call d old new → new.ran.since ≡ ran_by old.ran.since call
 ran_is n call d old new (Idle ran quiet r f) = ap (λ (b : Base). b.ran.since) r.based ∙ sym (ran old.ran.since)
 ran_is n call d old new (Hastened ran quiet h) = ap (λ (b : Base). b.ran.since) h.based ∙ sym (ran old.ran.since)
@@ -160,7 +160,7 @@ new_timely n now settings = record {
   outage = tt;
 }
 
--- of each of the seven nodes there is a monitor
+-- there is a monitor for each of the seven nodes
 pub new_at : (n : ℕ) (settings : Settings) (now : ℕ) → 1 ≤ n → n ≤ 7 → slice_get (new_monitors settings now) (n - 1) ≡ Some (new_monitor settings now n)
 new_at zero settings now low high = absurd (omega (arith, low))
 new_at (suc zero) settings now low high = refl
@@ -191,7 +191,7 @@ running n driver low high r =
     let start : r.led.first.ran.since ≡ r.led.now = ap (λ (timer : Timer). timer.since) new.ran in
     steps_in_time n r.steps r.led.first driver low high first (subst (λ (k : ℕ). GoesOn k r.steps) (sym start) r.goes_on) r.led.calls
 
--- and they go by what they went by
+-- and their settings stay
 
 settings_kept : (n : ℕ) (call : Call) (d : NodeMonitor) (old new : Driver) → Event n call d old new → new.settings ≡ old.settings
 settings_kept n call d old new (Idle ran quiet r f) = ap (λ (b : Base). b.settings) r.based

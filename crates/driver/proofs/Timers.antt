@@ -1,4 +1,4 @@
--- Each timer of a monitor is no later than the driver ran, and no wait is longer than the longest.
+-- No timer of a monitor is later than the driver ran, and no wait is longer than the longest.
 use Rattle.std.proofs.Common.{◌≡◌, ℕ, ◌+◌, ◌-◌, ◌*◌, ◌≤◌, Bool, true, false, Option, Some, None, refl, sym, subst, arith}
 use Rattle.std.specs.Prelude.{◌^◌, ◌/◌, ◌&&◌, ◌||◌, not, if◌then◌else◌, is_some, max, min, nat_lt}
 use Rattle.node_notes.specs.declared.note.Note.TheVariants as note
@@ -26,12 +26,12 @@ use Rattle.driver.proofs.Moves.{Core, core, hastened_by}
 abbrev pub longest : Settings → ℕ
 longest settings = max LONGEST settings.timeout_ms
 
--- an outage of which the driver knew when it ran last, with a wait that is not too long
+-- an outage that the driver knew of when it last ran, with a wait that is not too long
 abbrev pub OutageFits : ℕ → ℕ → Option Outage → Type 0
 OutageFits ran most None = Unit {0}
 OutageFits ran most (Some o) = (o.since.since ≤ ran) × (o.wait_ms ≤ most)
 
--- What the clock goes by is in time.
+-- What the clock uses is in time.
 pub record Timely (n ran : ℕ) (settings : Settings) (c : Core) : Type 0 where
   pub id : c.id ≡ n
   pub first : c.backoff.first ≡ settings.timeout_ms
@@ -87,7 +87,7 @@ hastened_timely n ran settings true d t = record {
   outage = shortened_fits ran (longest settings) d.down t.outage;
 }
 
--- the clock told the node something
+-- the clock sent the node something
 
 pub same_least : (now : ℕ) → now ≤ now
 same_least now = omega (arith)
@@ -144,7 +144,7 @@ clocked_by n now settings orders d (Some status) None is t =
 pub clocked_timely : (n now : ℕ) (settings : Settings) (orders : Ordered) (d : NodeMonitor) → Timely n now settings (core d) → Timely n now settings (core (clocked orders settings now d))
 clocked_timely n now settings orders d t = clocked_by n now settings orders d d.status d.down refl t
 
--- a report told how it stands
+-- a report gave its state
 
 since_by : (b : Bool) (now : ℕ) (timer : Timer) → timer.since ≤ now → (if b then at now else timer).since ≤ now
 since_by true now timer before = same_least now

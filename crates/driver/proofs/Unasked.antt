@@ -1,4 +1,4 @@
--- A client is asked for by the same note, at the same node, whatever comes of its requests.
+-- A client's requests go in the same note, to the same node, whatever effects come.
 use Rattle.std.proofs.Common.{◌≡◌, ◌∙◌, ℕ, Bool, true, false, List, ◌∷◌, refl, ap, ⊎_elim}
 use Rattle.wire_bytes.specs.declared.moment.Moment.{Moment}
 use Rattle.client_gate.specs.declared.fed.Fed.{Fed}
@@ -11,7 +11,7 @@ use Rattle.driver.specs.Clients.{is_shut}
 use Rattle.driver.specs.Serving.{HasPassed, HearsEffect, IsParted, PartsIf, Receives, TakesBy}
 use Rattle.driver.specs.Telling.{Ordered}
 
--- A client is asked for by the same note, at the same node.
+-- A client's requests go in the same note, to the same node.
 pub record IsOf (c new : Client) : Type 0 where
   pub asked : new.asked ≡ c.asked
   pub origin : new.origin ≡ c.origin
@@ -39,7 +39,7 @@ takes_of : (wrong : Bool) (s : Settings) (behind : List Call) (fed : Fed) (now :
 takes_of false s behind fed now at due c new before after (orders, stands) = of_rest c _ new stands.rest refl refl
 takes_of true s behind fed now at due c new before after (orders, stands) = of_rest c _ new stands.rest refl refl
 
--- what a client becomes where something begins to wait
+-- what a client becomes when something begins to wait
 abbrev pub first_of : Ordered → ℕ → Settings → List Call → Client → Client
 first_of before now s calls old = begun (now_asked before now old) (gate s calls).waiting old
 

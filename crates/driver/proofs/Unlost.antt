@@ -1,4 +1,4 @@
--- What waits of a client, and is not asked again, was told behind what may be lost.
+-- What waits of a client, and is not sent again, was sent after what may be lost.
 use Rattle.std.proofs.Common.{◌≡◌, ◌∙◌, ◌++◌, ◌⊎◌, inl, inr, ℕ, suc, ◌<◌, Bool, true, false, List, [], ◌∷◌, refl, sym, ap, subst, ⊎_elim, arith}
 use Rattle.std.specs.Prelude.{if◌then◌else◌, length}
 use Rattle.std.proofs.lemmas.Bool.{eqb-true, leb-false}
@@ -27,7 +27,8 @@ use Rattle.driver.proofs.AskedOnce.{told_append, told_asks}
 use Rattle.driver.proofs.Retelling.{Retells, dismissed_retells, effect_retells, hears_retell, lost_retells, reads_retell}
 use Rattle.driver.proofs.Unasked.{IsOf, effect_of, first_of, of_both, of_rest, of_same, parts_of, reads_of}
 
--- What comes of an event for what waits: nothing; it is as it was, or begins behind what was ordered first; or all is told again behind that.
+-- What an event does to what waits: nothing; it is unchanged, or begins after what was ordered first; or all is sent
+-- again after that.
 pub data Turn (s : Settings) (calls : List Call) (old : Client) (before : Ordered) (new : Client) (after : Ordered) : Type 0 where
   Still : Stands s calls new.gate → IsOf old new → (told : List Order) → after ≡ ordered before told → Turn s calls old before new after
   Begins :
@@ -144,7 +145,7 @@ event_turn (Words lost refused) now at s calls old new before after h stands =
 event_turn (Waits reads timeout) now at s calls old new before after h stands =
     ticks_turn (is_overdue old now) reads (is_to_go (waited reads now old) now) timeout now at s calls old new before after refl refl stands (h s calls stands)
 
--- What waits was told behind orders behind which the note by which it was asked first is the next.
+-- What waits was sent after orders whose next note is the one by which it was asked first.
 pub record Behind (s : Settings) (calls : List Call) (c : Client) (after : Ordered) : Type 0 where
   pub before : Ordered
   pub next : next_note before c.origin.0 ≡ c.asked.note
@@ -155,7 +156,7 @@ pub record Behind (s : Settings) (calls : List Call) (c : Client) (after : Order
 abbrev pub IsTold : Settings → List Call → Client → Ordered → Type 0
 IsTold s calls c after = (waiting_of s calls ≡ []) ⊎ Behind s calls c after
 
--- A client behind calls of its gate.
+-- A client after calls of its gate.
 pub record Kept (s : Settings) (c : Client) (after : Ordered) : Type 0 where
   pub calls : List Call
   pub stands : Stands s calls c.gate
@@ -172,7 +173,7 @@ none_idle : (requests : List Request) → numbers_of requests ≡ [] → is_idle
 none_idle [] is = refl
 none_idle (request ∷ requests) is = absurd (cc is)
 
--- asked by the next note, where nothing waited
+-- asked in the next note, if nothing waited
 asked_next : (idle : Bool) (asked before : Asked) → idle ≡ true → (if idle then asked else before) ≡ asked
 asked_next true asked before is = refl
 asked_next false asked before is = absurd (cc is)
@@ -187,7 +188,7 @@ then_told first mid last one two is so =
     ∙ ap (λ (orders : Ordered). ordered orders two) is
     ∙ ap (λ (items : List Order). record first { items = items }) (append_assoc first.items one two)
 
--- it is so on
+-- it stays so
 more_behind : (s : Settings) (calls behind : List Call) (old new : Client) (before after : Ordered) (more : List Order) → IsOf old new → after ≡ ordered before more → AreAmong (waiting_of s behind) (waiting_of s calls ++ numbers_told more) → Behind s calls old before → Behind s behind new after
 more_behind s calls behind old new before after more own orders among m =
     let all = numbers_told (m.told ++ more) in

@@ -1,4 +1,4 @@
--- What goes to the server, what a node is told, and when the server is connected to, for the connection to the server.
+-- What goes to the server, what a node gets, and when the server is connected to, for the connection to the server.
 use Rattle.std.proofs.Common.{◌≡◌, ◌∙◌, ℕ, zero, suc, ◌+◌, ◌-◌, Bool, true, false, List, [], ◌∷◌, Option, Some, None, refl, sym, ap, subst, slice_get}
 use Rattle.std.specs.BTreeMap.{keys}
 use Rattle.std.specs.Prelude.{if◌then◌else◌}
@@ -52,7 +52,7 @@ said_used quits (Over since) used = absurd used
 pub not_both : (b : Bool) (P : Type 0) → b ≡ true → b ≡ false → P
 not_both b P here there = absurd (cc (here, there))
 
--- where the connection has a session before and behind
+-- if the connection has a session before and after
 pub says_go : (now : ℕ) (c : Connection) (bytes : Vec ℕ) (old new : Driver) → IsUsed c → is_open new.link.stage ≡ true → new.orders ≡ ordered old.orders (order.Send bytes ∷ []) → new.clients ≡ old.clients → AllGood Inner old.clients → Goes now c old new
 says_go now c bytes old new used up orders clients good =
     let s = said_used (same_bytes bytes.items quit_line) c used in
@@ -65,7 +65,7 @@ says_go now c bytes old new used up orders clients good =
 
 -- Lines go out.
 
--- nothing does where nothing waits
+-- nothing does if nothing waits
 none_next : (may due : Bool) → piece_at may due nothing_waits ≡ None
 none_next true true = refl
 none_next true false = refl
@@ -97,7 +97,7 @@ lines_go (suc count) now node c old new fits good (mid, one, more) =
     let first = line_by now node c (is_open old.link.stage) old mid refl fits good one in
     goes_both now c old mid new first (lines_go count now node first.last mid new first.fits first.good more)
 
--- What a node is told.
+-- What a node gets.
 
 pub told_inner : (id : ℕ) (came : Option (Note TowerBody WireLine)) → AllAre Inner (told id came)
 unfolding AllAre

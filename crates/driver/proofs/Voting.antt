@@ -1,4 +1,4 @@
--- A node that hears of no leader is told in time to ask for votes.
+-- A node that hears of no leader is asked for an election in time.
 use Rattle.std.proofs.Common.{◌≡◌, ◌∙◌, ◌⊎◌, inl, inr, ℕ, zero, suc, ◌+◌, ◌-◌, ◌*◌, ◌<◌, ◌≤◌, Bool, true, false, List, [], ◌∷◌, length, Option, Some, None, refl, sym, ap, subst, slice_get, ⊎_elim, arith}
 use Rattle.std.specs.Prelude.{◌/◌, ◌&&◌, ◌||◌, if◌then◌else◌, is_some, min, nat_eq}
 use Rattle.std.specs.List.{list_all, list_any}
@@ -31,7 +31,7 @@ use Rattle.driver.proofs.Timely.{running}
 use Rattle.driver.proofs.Beaten.{none_is}
 use Rattle.driver.proofs.Silent.{IsSilent, and_first, and_last, hastened_silent, heard_silent, of_none, or_last, woken_silent}
 
--- what the clock tells it
+-- the note that the clock sends it
 note_silent : (d : NodeMonitor) (settings : Settings) (now : ℕ) (status : Status) → d.status ≡ Some status → d.down ≡ None → leads status ≡ false → note_at d settings now ≡ (if is_over d.following.last_leader_contact (patience settings d.id) now then Some (note.Timeout d.progress.contacts) else None)
 unfolding note_for note_up
 note_silent d settings now status is up follows =
@@ -39,7 +39,7 @@ note_silent d settings now status is up follows =
     ∙ ap (λ (down : Option Outage). note_for d settings now (Some status) down) up
     ∙ ap (λ (b : Bool). if b then (if is_to_beat d settings now then Some note.Beat else None) else (if is_over d.following.last_leader_contact (patience settings d.id) now then Some (note.Timeout d.progress.contacts) else None)) follows
 
--- Behind the clock it was told to ask for votes, or waits on, and some of its wait is left.
+-- After the clock it was asked for an election, or waits on, and some of its wait is left.
 pub record WaitsOn (n term contacts : ℕ) (settings : Settings) (ran left : ℕ) (driver : Driver) : Type 0 where
   pub own : NodeMonitor
   pub is : slice_get driver.monitors (n - 1) ≡ Some own
@@ -103,7 +103,7 @@ Comes n term contacts settings ran left call told new =
 none_counts : (left ran half : ℕ) → left ≡ left - min (ran - ran) half
 none_counts left ran half = omega (arith)
 
--- where the driver did not run
+-- if the driver did not run
 stays_silent : (n term contacts ran left : ℕ) (settings : Settings) (call : Call) (told : List Order) (d : NodeMonitor) (new : Driver) → ran_by ran call ≡ ran → is_tick call ≡ false → new.settings ≡ settings → new.ran.since ≡ ran → Found n d new → IsSilent n term contacts settings ran left (core d) → Comes n term contacts settings ran left call told new
 stays_silent n term contacts ran left settings call told d new same quiet goes_by ran_is f w =
     let half = settings.timeout_ms / 2 in
@@ -121,7 +121,7 @@ stays_silent n term contacts ran left settings call told d new same quiet goes_b
           (subst (λ (k : ℕ). WaitsOn n term contacts settings ran k new) rest waits),
     )
 
--- where it ran
+-- if it ran
 ran_silent : (n term contacts ran left now : ℕ) (settings : Settings) (call : Call) (told : List Order) (new : Driver) → ran_by ran call ≡ now → Ticks n term contacts settings told now (left - min (now - ran) (settings.timeout_ms / 2)) new → Comes n term contacts settings ran left call told new
 ran_silent n term contacts ran left now settings call told new is t =
     let half = settings.timeout_ms / 2 in
@@ -197,7 +197,7 @@ until_votes n term contacts ran left settings (step ∷ more) old new low high s
     (or_last (is_tick step.call && nat_eq (left - counts half ran step.call) 0) (passes_counted half (ran_by ran step.call) (left - counts half ran step.call) more) on.0 passed)))
     comes_so
 
--- where it begins
+-- at the beginning
 
 whole_wait : (wait passed : ℕ) → wait ≤ passed + wait
 whole_wait wait passed = omega (arith)
@@ -224,7 +224,7 @@ votes_in_time node status steps old new r so up follows passed =
     until_votes node status.term contacts old.ran.since wait old.settings steps old new r.low r.high i.sound
     (record { own = i.own; is = i.is; waits = w; goes_by = refl; ran_is = refl }) r.goes_on r.fit r.does passed
 
--- Of so many ticks one is late enough.
+-- One of that many ticks is late enough.
 
 counted_once : (gap half wait : ℕ) → 1 ≤ gap → 1 ≤ half → wait - min gap half ≤ wait - 1
 counted_once gap half wait first last = omega (arith, first, last)

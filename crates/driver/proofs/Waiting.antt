@@ -1,4 +1,4 @@
--- The claim that waits at a node, and what comes of a call for it.
+-- The claim that waits at a node, and what a call does for it.
 use Rattle.std.proofs.Common.{◌≡◌, ◌∙◌, ◌++◌, inl, ℕ, ◌-◌, Bool, true, false, List, Option, Some, None, refl, sym, ap, subst, slice_get, ⊎_elim, arith}
 use Rattle.std.specs.Prelude.{◌&&◌, ◌||◌, not, nat_eq, nat_le}
 use Rattle.std.specs.List.{list_any}
@@ -20,7 +20,7 @@ use Rattle.driver.proofs.Keeping.{IsClaimed, Keeps, Line, Result, Sound}
 use Rattle.driver.proofs.Monitors.{Look, look_at, look_in}
 use Rattle.driver.proofs.Quiet.{NoClaim, none_claims}
 
--- The last claim that a node was told is of this line, and may be in its log.
+-- The last claim that a node was asked for is of this line, and may be in its log.
 pub record Waits (n : ℕ) (line : Line) (driver : Driver) : Type 0 where
   pub at : Look
   pub is_at : look_at driver.monitors (n - 1) ≡ Some at
@@ -45,20 +45,20 @@ abbrev pub or_status : Look → Option Look → Look
 or_status x None = x
 or_status x (Some y) = y
 
--- how a node stands, by what is looked at
+-- the state of a node, by what is looked at
 pub status_of : (found : Option NodeMonitor) (x : Look) → look_in found ≡ Some x → status_in found ≡ x.status
 status_of None x is = absurd (cc is)
 status_of (Some d) x is = ap (λ (y : Look). y.status) (ap (or_status x) is)
 
--- A node was told the claim of a line of its session, which is the last one now; if none may have been applied or refused meanwhile,
--- no claim of that line waited before.
+-- A node was asked for the claim of a line of its session, which is the last one now; if none may have been applied or
+-- refused meanwhile, no claim of that line waited before.
 pub record Fresh (n : ℕ) (applied : Bool) (old new : Driver) : Type 0 where
   pub line : Line
   pub is_line : line_to_claim (status_at new.monitors n) ≡ Some line
   pub waits : Waits n line new
   pub none_before : applied ≡ false → Waits n line old → ⊥
 
--- What comes of a call for the claims of a node.
+-- What a call does for the claims of a node.
 pub record Outcome (n : ℕ) (applied : Bool) (old new : Driver) (told : List Order) : Type 0 where
   pub sound : Sound n new
   pub quiet : list_any (claims n) told ≡ false → applied ≡ false → (line : Line) → Waits n line old → Waits n line new
@@ -89,14 +89,14 @@ abbrev pub or_claim : Claimed → Option Claimed → Claimed
 or_claim c None = c
 or_claim c (Some d) = d
 
--- where the last claim of a line may be in the log, that line is not free
+-- if the last claim of a line may be in the log, that line is not free
 pub not_free : (n : ℕ) (line : Line) (driver : Driver) (before : Look) (wait now : ℕ) → Waits n line driver → look_at driver.monitors (n - 1) ≡ Some before → is_claimed before.claimed wait now line.0 line.1 ≡ false → ⊥
 not_free n line driver before wait now w is free =
     let same : w.at ≡ before = ap (or_status w.at) (sym w.is_at ∙ is) in
     let held = held_back before.claimed w.claim wait now line (subst (λ (x : Look). x.claimed ≡ Some w.claim) same w.is_claim) w.session w.number w.unsettled in
     true_false (is_claimed before.claimed wait now line.0 line.1) ⊥ held free
 
--- the claim that a node was told is the last one
+-- the claim that a node was asked for is the last one
 pub claimed_waits : (n : ℕ) (old new : Driver) → (c : IsClaimed n old new) → Waits n c.line new
 claimed_waits n old new c = record {
   at = record { id = c.before.id; claimed = Some c.claim; status = c.before.status };
@@ -108,7 +108,7 @@ claimed_waits n old new c = record {
   unsettled = c.unsettled;
 }
 
--- What comes of a call that first keeps, or is a report, and then lets nodes tick.
+-- What a call does that first keeps, or is a report, and then lets nodes tick.
 pub outcome_kept : (n : ℕ) (applied : Bool) (old mid new : Driver) (told : List Order) → Adds (NoClaim n) old.orders mid.orders → (applied ≡ false → (line : Line) → Waits n line old → Waits n line mid) → Keeps n mid new → new.orders ≡ ordered old.orders told → Outcome n applied old new told
 outcome_kept n applied old mid new told adds waits k is =
     let all = adds_both (NoClaim n) old.orders mid.orders new.orders adds k.adds in
@@ -147,7 +147,7 @@ pub outcome_of : (n : ℕ) (applied : Bool) (old mid new : Driver) (told : List 
 outcome_of n applied old mid new told adds waits r is =
     ⊎_elim (λ k. outcome_kept n applied old mid new told adds waits k is) (λ c. outcome_claimed n applied old mid new told adds waits c is) r
 
--- of a call that keeps
+-- for a call that keeps
 pub outcome_keeps : (n : ℕ) (applied : Bool) (old new : Driver) (told : List Order) → Keeps n old new → new.orders ≡ ordered old.orders told → Outcome n applied old new told
 outcome_keeps n applied old new told k is =
     outcome_of n applied old old new told (nothing_adds (NoClaim n) old.orders old.orders refl) (λ _ line w. w) (inl k) is

@@ -1,4 +1,5 @@
--- Nodes that hang, a group that is too small, and clients that are to leave: what is ordered, and how nodes stand behind it.
+-- Nodes that hang, a group that is too small, and clients that are to leave: what is ordered, and the state of nodes
+-- afterwards.
 use Rattle.std.proofs.Common.{◌≡◌, ◌∙◌, ℕ, zero, suc, ◌+◌, ◌-◌, Bool, true, false, List, [], ◌∷◌, Option, Some, None, refl, sym, ap, subst, slice_get}
 use Rattle.std.specs.Prelude.{is_some}
 use Rattle.std.specs.BTreeMap.{keys}

@@ -1,4 +1,4 @@
--- What changes where lines go out, and of what is ordered by them.
+-- What changes when lines go out, and the orders for them.
 use Rattle.std.proofs.Common.{◌≡◌, ◌∙◌, ℕ, zero, suc, ◌-◌, ◌<◌, ◌≤◌, ◌+◌, Bool, false, Option, Some, None, refl, sym, ap, subst, slice_get, arith}
 use Rattle.std.specs.Global.{Vec}
 use Rattle.std.specs.Option.{is_some}
@@ -9,7 +9,8 @@ use Rattle.driver.specs.declared.outgoing.Piece.{Piece}
 use Rattle.driver.specs.Writing.{GoesOutIf, WriteLines, WritesLine, are_due, piece_of}
 use Rattle.driver.proofs.Adding.{Adds, adds_both, nothing_adds, one_adds}
 
--- a driver, with the orders, the pace, what waits, what is known of keys and what may not have arrived of another
+-- a driver with the orders, the pace, what waits, what is known of keys and what may not have arrived taken from
+-- another
 abbrev pub written_as : Driver → Driver → Driver
 written_as new old = record old { orders = new.orders; pace = new.pace; unheard = new.unheard; link = record old.link { waiting = new.link.waiting; keys = new.link.keys } }
 
@@ -39,21 +40,21 @@ lines_add P (suc count) now node old new fits (behind, one, more) =
     (one_sent P now (are_due (slice_get old.monitors (node - 1))) (piece_of now node old) old behind fits one)
     (lines_add P count now node behind new fits more)
 
--- a line goes out, and then those behind it
+-- a line goes out, and then those after it
 pub write_more : (i count now node : ℕ) (old behind new : Driver) → i < count → WritesLine now node old behind → WriteLines (count - (i + 1)) now node behind new → WriteLines (count - i) now node old new
 unfolding WriteLines
 write_more i count now node old behind new within one more =
     let left : suc (count - (i + 1)) ≡ count - i = omega (arith, within) in
     subst (λ (left : ℕ). WriteLines left now node old new) left (behind, one, more)
 
--- where none is left none goes out
+-- no line is left
 pub write_none : (i count now node : ℕ) (driver : Driver) → count ≤ i → WriteLines (count - i) now node driver driver
 unfolding WriteLines
 write_none i count now node driver over =
     let none : 0 ≡ count - i = omega (arith, over) in
     subst (λ (left : ℕ). WriteLines left now node driver driver) none refl
 
--- where nothing goes out any more, no more lines do
+-- if nothing goes out any more, no more lines do
 pub write_idle : (count now node : ℕ) (driver : Driver) → piece_of now node driver ≡ None → WriteLines count now node driver driver
 unfolding WriteLines
 write_idle zero now node driver none = refl

@@ -70,12 +70,12 @@ boot_in (Some monitor) = boot_open monitor
 abbrev pub boot_at : List NodeMonitor → ℕ → Option ℕ
 boot_at monitors node = boot_in (slice_get monitors (node - 1))
 
--- the number of a client that connects to a node with this run: one more than the last, where numbers are left
+-- the number of a client that connects to a node with this run: one more than the last, if numbers are left
 abbrev pub number_if : Option ℕ → ℕ → Option ℕ
 number_if None last = None
 number_if (Some boot) last = if nat_lt last number_limit then Some (last + 1) else None
 
--- the number of a client that connects to this node: none where the node takes none, or where no number is left
+-- the number of a client that connects to this node: none if the node takes no clients, or if no number is left
 abbrev pub next_number : List NodeMonitor → ℕ → ℕ → Option ℕ
 next_number monitors node last = number_if (boot_at monitors node) last
 
@@ -92,31 +92,31 @@ pub record Arrives (origin : Origin) (password nick : List ℕ) (now : ℕ) (new
   pub is_new : IsNew origin held nick now client
   pub is_made : Stands (made origin password nick) [] held
 
--- a client has connected to a node that is up in this run, if it was given a number
+-- a client has connected to a node that is up in this run, if it got a number
 abbrev pub ArrivesBy : Option ℕ → Option ℕ → ℕ → List ℕ → List ℕ → ℕ → Clients → Clients → Type 0
 ArrivesBy None number node password nick now old new = new ≡ old
 ArrivesBy (Some boot) None node password nick now old new = new ≡ old
 ArrivesBy (Some boot) (Some number) node password nick now old new = Arrives (node, boot, number) password nick now new
 
--- a client has connected to this node, if it was given a number; where the node is not up nobody has
+-- a client has connected to this node, if it got a number; if the node is not up nobody has
 abbrev pub ArrivesIf : List NodeMonitor → Option ℕ → ℕ → List ℕ → List ℕ → ℕ → Clients → Clients → Type 0
 ArrivesIf monitors number node password nick now old new = ArrivesBy (boot_at monitors node) number node password nick now old new
 
--- the monitors where a client connected to a node with this run, if it is up: the run was seen, where the client was taken; where the
--- node is not up, the client was turned away
+-- the monitors after a client connected to a node with this run, if it is up: the run was seen, if the client was
+-- taken; if the node is not up, the client was turned away
 abbrev pub visited : Option ℕ → Bool → List NodeMonitor → ℕ → List NodeMonitor
 visited None taken monitors node = changed_at turned_away monitors node
 visited (Some boot) taken monitors node = if taken then changed_at (with_seen boot) monitors node else monitors
 
--- the monitors where a client connected to this node, and so many clients had been numbered before it
+-- the monitors after a client connected to this node, given how many clients had been numbered before it
 abbrev pub monitors_behind : List NodeMonitor → ℕ → ℕ → List NodeMonitor
 monitors_behind monitors node numbered = visited (boot_at monitors node) (nat_lt numbered number_limit) monitors node
 
--- an operator is told of the first client that was turned away since the node was up
+-- the first client that is turned away since the node was up is logged
 abbrev pub turned_away_by : Option ℕ → List NodeMonitor → ℕ → List Order
 turned_away_by None monitors node = orders_at turned_away_news monitors node
 turned_away_by (Some boot) monitors node = []
 
--- what an operator is told where a client connects to this node: that it was turned away, if it is the first that was
+-- what is logged when a client connects to this node: that it was turned away, if it is the first
 abbrev pub turned_away_at : List NodeMonitor → ℕ → List Order
 turned_away_at monitors node = turned_away_by (boot_at monitors node) monitors node

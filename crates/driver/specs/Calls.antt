@@ -1,4 +1,4 @@
--- What is told to a driver, call by call, and what comes of it where there is memory.
+-- The calls of a driver, and what each does if memory lasts.
 use Rattle.std.specs.Prelude.{◌≡◌, ◌≤◌, ℕ, Bool, List, [], ◌∷◌, None, Some, IfSome}
 use Rattle.wire_bytes.specs.declared.moment.Moment.{Moment}
 use Rattle.client_gate.specs.Gates.{GateEffect}
@@ -26,9 +26,10 @@ use Rattle.driver.specs.Telling.{Ordered, emptied, ordered}
 use Rattle.driver.specs.Writing.{Hands}
 use Rattle.wire_bytes.specs.Limits.{node_limit}
 
--- A call: a client connects to a node, sends bytes or is gone; a node hands out a line for the server; a node's worker reports; time
--- passes; the server is connected to, sends bytes or is gone; all clients are told something, or are to leave; the log is looked at, or the
--- nodes are, or how many wrong passwords came; what a client sent is not taken; the orders are taken.
+-- A call: a client connects to a node, sends bytes or is gone; a node hands out a line for the server; a node's worker
+-- reports; time passes; the server's connection is made, brings bytes or is gone; all clients get a notice, or are to
+-- leave; the log is looked at, or the nodes are, or how many wrong passwords came; what a client sent is refused; the
+-- orders are taken.
 pub data Call : Type 0 where
   Connect : ℕ → ℕ → Call
   Receive : List ℕ → ℕ → Moment → ℕ → Call
@@ -85,19 +86,19 @@ pub record Orders (gives : Ordered → Ordered → Type 0) (old new : Driver) : 
   pub given : gives old.orders new.orders
   pub rest : new ≡ record old { orders = new.orders }
 
--- The server is connected to.
+-- The connection to the server is made.
 pub record Stands (now : ℕ) (old new : Driver) : Type 0 where
   pub stands : Connects old.link.stage old.settings now old.orders new.link.stage new.orders
   pub link : new.link ≡ record old.link { stage = new.link.stage }
   pub rest : new ≡ record old { link = new.link; orders = new.orders }
 
--- A worker's report is of one of the seven nodes.
+-- A worker's report is about one of the seven nodes.
 pub record Reports (now : ℕ) (at : Moment) (node : ℕ) (status : Status) (effects : List GateEffect) (progress : Progress) (refused : Bool) (old new : Driver) : Type 0 where
   pub low : 1 ≤ node
   pub high : node ≤ node_limit
   pub hears : Hears now at node status effects progress refused old new
 
--- This comes of a call: what its contract says.
+-- What a call does, by its contract.
 abbrev pub Does : Call → Driver → Driver → Type 0
 Does (Connect now node) old new = (1 ≤ node) × ConnectsTo now node old new
 Does (Receive bytes now at number) old new = Speaks bytes now at number old new
@@ -122,7 +123,7 @@ pub record Step : Type 0 where
   pub call : Call
   pub told : List Order
 
--- what a call orders stands behind the orders before it; where these are taken nothing is ordered
+-- what a call orders follows the orders before it; if the call takes the orders nothing is ordered
 abbrev pub IsTold : Call → List Order → Ordered → Ordered → Type 0
 IsTold Take told before after = told ≡ []
 IsTold call told before after = after ≡ ordered before told

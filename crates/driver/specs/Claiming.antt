@@ -12,34 +12,35 @@ use Rattle.driver.specs.Calls.{Call, DoesAll, DoesStep, Hear, Led, Step}
 use Rattle.driver.specs.Monitors.{line_to_claim}
 use Rattle.driver.specs.Links.{status_at}
 
--- a note tells its node to claim a line
+-- a note asks its node to claim a line
 abbrev pub is_claim : Note TowerBody WireLine → Bool
 is_claim Claim = true
 is_claim note = false
 
--- an order tells this node to claim
+-- an order asks this node to claim
 abbrev pub claims : ℕ → Order → Bool
 claims node (Submit other note) = is_claim note && nat_eq other node
 claims node order = false
 
--- a call tells this node to claim
+-- a call asks this node to claim
 abbrev pub tells_claim : ℕ → Step → Bool
 tells_claim node step = list_any (claims node) step.told
 
--- in a call this node tells that it has applied all of its log
+-- in a call this node reports that it has applied all of its log
 abbrev pub applies_all : ℕ → Call → Bool
 applies_all node (Hear now at other status effects progress refused) = nat_eq other node && nat_eq status.applied status.last
 applies_all node call = false
 
--- In this call the node is told to claim this line, which is that of the session that it holds.
+-- In this call the node is asked to claim this line, which belongs to the session that it holds.
 pub record Claims (node : ℕ) (line : (ℕ × ℕ) × ℕ) (step : Step) (old new : Driver) : Type 0 where
   pub low : 1 ≤ node
   pub does : DoesStep step old new
   pub told : tells_claim node step ≡ true
   pub is_line : line_to_claim (status_at new.monitors node) ≡ Some line
 
--- Over every list of calls of a new driver: where a node is told to claim a line, and the next claim that it is told is of the same line,
--- it told in between that it has applied all of its log, so that the claim is not in its log, or was refused.
+-- Over every list of calls of a new driver: if a node is asked to claim a line, and the next claim that it is asked for
+-- is of the same line, it reported in between that it has applied all of its log, so that the claim is not in its log,
+-- or was refused.
 abbrev pub OneClaimWaits : Type 0
 OneClaimWaits =
     (node : ℕ) (line : (ℕ × ℕ) × ℕ) (earlier between : List Step) (first last : Step) (before told next new : Driver)

@@ -1,4 +1,4 @@
--- What a client's requests are to its node.
+-- How a client's requests go to its node.
 use Rattle.std.specs.Prelude.{◌&&◌, ◌||◌, not, is_some, ℕ, Bool, true, false, nat_le, if◌then◌else◌, List, [], ◌∷◌, ◌++◌, Option, Some, None}
 use Rattle.std.specs.Global.{Vec}
 use Rattle.bouncer_tower.specs.Bodies.{TowerBody}
@@ -33,32 +33,32 @@ unfoldable pub asks_of : Origin → Moment → List Request → List Order
 asks_of origin at [] = []
 asks_of origin at (request ∷ requests) = ask_of origin at request ∷ asks_of origin at requests
 
--- an operator is told of a client by its first request
+-- a client is logged with its first request
 abbrev pub welcome : Bool → Origin → List Order
 welcome true origin = []
 welcome false origin = Log (Attached origin) ∷ []
 
--- what comes of requests of a client that asked before, or did not
+-- what requests of a client order, depending on whether it asked before
 unfoldable pub asked_all : Bool → Origin → Moment → List Request → List Order
 asked_all attached origin at [] = []
 asked_all attached origin at (request ∷ requests) = welcome attached origin ++ asks_of origin at (request ∷ requests)
 
--- something is asked for
+-- there is a request
 abbrev pub is_some_asked : List Request → Bool
 is_some_asked [] = false
 is_some_asked (request ∷ requests) = true
 
--- the name by which a request attaches a client, if it does
+-- the name by which a request attaches a client, if it gives one
 abbrev pub name_in : Action → Option (List ℕ)
 name_in (Attach name) = name
 name_in other = None
 
--- the name by which requests attach a client, where the first one attaches it by one
+-- the name by which these requests attach a client, if the first one gives a name
 abbrev pub name_asked : List Request → Option (List ℕ)
 name_asked [] = None
 name_asked (request ∷ requests) = name_in request.action
 
--- the name of a client that registered before, or by these requests, if by some
+-- the name of a client that registered before, or by these requests, if it gave one
 abbrev pub named_by : Bool → Option (List ℕ) → List Request → Option (List ℕ)
 named_by true name requests = name
 named_by false name [] = name
@@ -69,26 +69,26 @@ abbrev pub last_asks : Origin → Moment → Option Request → List Order
 last_asks origin at None = []
 last_asks origin at (Some request) = ask_of origin at request ∷ []
 
--- an operator is told that a client left that had registered
+-- it is logged that a client left, if it had registered
 abbrev pub left_news : Bool → Origin → List Order
 left_news false origin = []
 left_news true origin = Log (Left origin) ∷ []
 
--- a client's connection is closed, an operator is told where it had registered, and its last request goes to its node
+-- a client's connection is closed, which is logged if it had registered, and its last request goes to its node
 abbrev pub parting : Bool → Origin → Moment → Option Request → List Order
 parting attached origin at request = Close origin.2 ∷ (left_news attached origin ++ last_asks origin at request)
 
--- nothing comes of it where the connection is gone already
+-- nothing happens if the connection is gone already
 unfoldable pub parting_unless : Bool → Bool → Origin → Moment → Option Request → List Order
 parting_unless true attached origin at request = []
 parting_unless false attached origin at request = parting attached origin at request
 
--- bytes are written, if there are some
+-- bytes are written, if there are any
 abbrev pub write_some : ℕ → Vec ℕ → List ℕ → List Order
 write_some client bytes [] = []
 write_some client bytes (byte ∷ more) = Write client bytes ∷ []
 
--- bytes are written to a client whose connection stands
+-- bytes are written to a connected client
 abbrev pub written : Bool → ℕ → Vec ℕ → List Order
 written true client bytes = []
 written false client bytes = write_some client bytes bytes.items
@@ -97,28 +97,28 @@ written false client bytes = write_some client bytes bytes.items
 abbrev pub has_left : Fed → Bool
 has_left fed = fed.close && is_some_asked fed.requests.items
 
--- its gate closes, and not since it asked to leave
+-- its gate closes, and not because it asked to leave
 abbrev pub is_cut : Fed → Bool
 is_cut fed = fed.close && not (is_some_asked fed.requests.items)
 
--- what comes of requests of a client: a Join of a channel that it asked to part from is told as a line
+-- the orders for requests of a client: a Join of a channel that it asked to part from goes as a line
 abbrev pub asked_by : Client → Moment → List Request → List Order
 asked_by c at requests = asked_all c.is_attached c.origin at (reworded c.channels c.parting requests)
 
--- what a gate answered goes on: the bytes to its client, the requests to its node; and where it closes, and the client did not ask to
--- leave, the client is parted from
+-- what a gate answered goes on: the bytes to its client, the requests to its node; if the gate closes, and the client
+-- did not ask to leave, the client is closed
 abbrev pub passed : Client → Moment → Option Request → Fed → List Order
 passed c at last fed =
     (written c.is_gone c.origin.2 fed.reply ++ asked_by c at fed.requests.items)
     ++ (if is_cut fed then parting_unless c.is_gone (c.is_attached || is_some_asked fed.requests.items) c.origin at last else [])
 
--- since when a client leaves that asked to leave now, or did not
+-- since when a client has been leaving, depending on whether it asked to leave now
 abbrev pub leaves_since : Bool → ℕ → Option Timer → Option Timer
 leaves_since true now before = Some (record { since = now })
 leaves_since false now before = before
 
--- a client whose gate answered so: it is attached once it asked for something, by the name that it asked by first; it leaves where it asked to, and is gone where the gate
--- closes for another reason
+-- a client after such an answer of its gate: it is attached once it asked for something, by the name in its first
+-- request; it is leaving if it asked to, and is gone if the gate closes for another reason
 abbrev pub behind_fed : ℕ → Client → Fed → Client
 behind_fed now c fed = record c {
   is_attached = c.is_attached || is_some_asked fed.requests.items;
@@ -128,7 +128,7 @@ behind_fed now c fed = record c {
   is_gone = c.is_gone || is_cut fed;
 }
 
--- a client whose password was wrong: what its gate wrote is kept back until this moment
+-- a client whose password was wrong: what its gate wrote is held back until this moment
 abbrev pub kept_back : ℕ → Client → Fed → Client
 kept_back due c fed = record c {
   is_attached = c.is_attached || is_some_asked fed.requests.items;
@@ -137,15 +137,15 @@ kept_back due c fed = record c {
   refused = Some (record { answer = fed.reply; due = due });
 }
 
--- nothing more is read of a client: it leaves, or its connection is gone
+-- nothing more is read from a client: it is leaving, or its connection is gone
 abbrev pub is_leaving : Client → Bool
 is_leaving c = c.is_gone || is_some c.leaving
 
--- nothing more is taken of a client: it leaves, its connection is gone, or its password was wrong
+-- nothing more is taken from a client: it is leaving, its connection is gone, or its password was wrong
 abbrev pub is_shut : Client → Bool
 is_shut c = is_leaving c || is_some c.refused
 
--- what a client whose password was wrong is told at this moment, if it is told it
+-- what a client whose password was wrong is sent at this moment, if its moment has come
 abbrev pub due_answer : Option Refusal → ℕ → Option (List ℕ)
 due_answer None now = None
 due_answer (Some refusal) now = if nat_le refusal.due now then Some refusal.answer.items else None

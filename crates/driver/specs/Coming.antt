@@ -1,4 +1,4 @@
--- What comes of a client's bytes at the driver.
+-- What a client's bytes do at the driver.
 use Rattle.std.specs.Prelude.{◌≡◌, ℕ, List, Some, is_some}
 use Rattle.wire_bytes.specs.declared.moment.Moment.{Moment}
 use Rattle.client_gate.specs.declared.status_word.StatusWord.{StatusWord}
@@ -10,9 +10,9 @@ use Rattle.driver.specs.Rosters.{Serves, client_at, is_attached_in, refused_in}
 use Rattle.driver.specs.Serving.{ReceivesWords}
 use Rattle.driver.specs.Telling.{Ordered}
 
--- Bytes of a client came, and it takes them. Where it registered by them, it is told of the nick in force, where it was greeted by another,
--- that there is no MOTD, that too few nodes are up, where people know that, and that there is no server, where there is none. Where its
--- password was wrong, that is counted. What it said to the bouncer that asked for nothing of the buffers is answered.
+-- Bytes of a client came, and it takes them. If it registered by them, it learns the nick in force if it was greeted by
+-- another, that there is no MOTD, that too few nodes are up if people know that, and that there is no server if there
+-- is none. A wrong password is counted. What it said to the bouncer that asks nothing of the buffers is answered.
 pub record Comes (bytes : List ℕ) (now : ℕ) (at : Moment) (number : ℕ) (old new : Driver) : Type 0 where
   pub told : Ordered
   pub words : List StatusWord

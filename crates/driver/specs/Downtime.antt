@@ -1,4 +1,4 @@
--- A node that is down is told nothing but to start again.
+-- A node that is down gets no note but to start again.
 use Rattle.std.specs.Prelude.{◌≡◌, ◌≤◌, ℕ, Bool, false, nat_eq, List, ◌∷◌, ◌++◌}
 use Rattle.std.specs.List.{list_any}
 use Rattle.bouncer_tower.specs.Bodies.{TowerBody}
@@ -13,13 +13,13 @@ use Rattle.driver.specs.declared.order.Order.TheVariants.{Submit, Log}
 use Rattle.driver.specs.Calls.{Led, Step}
 use Rattle.driver.specs.Counting.{all_told}
 
--- by this order an operator is told that a node is up
+-- this order logs that a node is up
 abbrev pub tells_up : ℕ → Order → Bool
 tells_up node (Log (Up other boot)) = nat_eq other node
 tells_up node order = false
 
--- Over every list of calls of a new driver: where an operator was told that a node is down, and not since that it is up, whatever the node
--- is told is to start again. Nodes count from 1.
+-- Over every list of calls of a new driver: if it was logged that a node is down, and not since that it is up, every
+-- note to the node is to start again. Nodes count from 1.
 abbrev pub DownIsOnlyRestarted : Type 0
 DownIsOnlyRestarted =
     (node : ℕ) (cause : Cause) (came : Note TowerBody WireLine) (steps : List Step) (driver : Driver) (before between behind : List Order)

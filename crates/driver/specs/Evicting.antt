@@ -1,4 +1,5 @@
--- Why the buffers close a client, and what it and an operator are told of that. The effect does not say why; what is known of the client does.
+-- Why the buffers close a client, and what it and the log say about it. The effect does not say why; what is known of
+-- the client does.
 use Rattle.std.specs.Prelude.{◌≡◌, ℕ, Bool, ◌&&◌, true, false, codes, if◌then◌else◌, List, [], ◌∷◌, ◌++◌, Option, Some, None}
 use Rattle.std.specs.Global.{Vec}
 use Rattle.buffer_commands.specs.declared.effect.Effect.{Effect}
@@ -26,7 +27,7 @@ words_of NamesSpent = codes "64 names are in use already: attach without a name,
 words_of GaveWay = codes "only one client may attach at a time (multi_clients)"
 words_of RunOver = codes "the run of its node is over: connect again"
 
--- the line that a client gets that the buffers close
+-- the line for a client that the buffers close
 abbrev pub eviction_line : Eviction → List ℕ
 eviction_line why = codes "ERROR :Closing link: " ++ words_of why ++ 13 ∷ 10 ∷ []
 
@@ -40,33 +41,35 @@ abbrev pub evicted_by : GateEffect → Bool
 evicted_by (answer.Effect (claims.Inner (fence.Inner effect))) = is_close effect
 evicted_by other = false
 
--- why a client is refused that attaches: by a name it is since as many are in use as may be, and without one since its run is over
+-- why a client that attaches is refused: with a name because too many are in use, and without one because its run is
+-- over
 abbrev pub refusal_of : Option (List ℕ) → Eviction
 refusal_of None = RunOver
 refusal_of (Some name) = NamesSpent
 
--- Why a client is closed of which these requests wait, by this name, if it has one: as long as its first request waits, by which it attaches,
--- that was refused; behind it the client was attached, and gives way to another one.
+-- Why a client with these waiting requests is closed, by its name, if it has one: as long as its first request waits,
+-- which attaches it, that was refused; after that the client was attached, and gives way to another one.
 abbrev pub eviction_of : List Request → Option (List ℕ) → Eviction
 eviction_of waiting name = if is_first_answered 1 waiting then refusal_of name else GaveWay
 
--- why a client is closed by this effect, where it is, it registered and its connection stands
+-- why a client is closed by this effect, if it is, and it is registered and connected
 abbrev pub eviction_in : List Request → Client → GateEffect → Option Eviction
 eviction_in waiting c effect = if is_reached c && evicted_by effect then Some (eviction_of waiting c.name) else None
 
--- an operator is told why a client is closed, if it is, and then the client
+-- it is logged why a client is closed, if it is, and then the client is told
 abbrev pub IsToldWhy : Option Eviction → Client → Ordered → Ordered → Type 0
 IsToldWhy None c before after = after ≡ before
 IsToldWhy (Some why) c before after =
     (line : Vec ℕ) × (line.items ≡ eviction_line why) × (after ≡ ordered before (Log (Evicted c.origin why) ∷ Write c.origin.2 line ∷ []))
 
--- an effect is for this client, or for another one: this one is told why it is closed, whatever calls its gate stands behind
+-- an effect is for this client, or for another one: this one gets the reason why it is closed, whatever calls its gate
+-- has had
 abbrev pub IsEvictedIf : Bool → Client → GateEffect → Ordered → Ordered → Type 0
 IsEvictedIf false c effect before after = after ≡ before
 IsEvictedIf true c effect before after =
     (s : Settings) (calls : List Call) → Stands s calls c.gate → IsToldWhy (eviction_in (gate s calls).waiting c effect) c before after
 
--- the client that was found is told so, if there is one, and it is of this origin
+-- the client that was found gets the reason, if there is one and it is of this origin
 abbrev pub IsEvicted : Option Client → Origin → GateEffect → Ordered → Ordered → Type 0
 IsEvicted None origin effect before after = after ≡ before
 IsEvicted (Some c) origin effect before after = IsEvictedIf (same_origin c.origin origin) c effect before after

@@ -1,4 +1,4 @@
--- What a client that leaves is shown, and why its connection is closed.
+-- What a client that leaves is shown, and when its connection is closed.
 use Rattle.std.specs.Prelude.{◌≡◌, ℕ, Bool, false, nat_eq, if◌then◌else◌, flat_map, List, [], Some}
 use Rattle.std.specs.List.{list_any}
 use Rattle.client_gate.specs.declared.settings.Settings.{Settings}
@@ -20,12 +20,12 @@ bytes_to client order = []
 abbrev pub written_to : ℕ → List Order → List ℕ
 written_to client orders = flat_map (bytes_to client) orders
 
--- by this order a client's connection is closed
+-- this order closes a client's connection
 abbrev pub closes : ℕ → Order → Bool
 closes client (Close other) = nat_eq other client
 closes client order = false
 
--- what a client is shown by an event: the line of what came of a request, as its gate spells it
+-- what an event shows a client: the line for an effect of a request, as its gate writes it
 abbrev pub shown_by : Settings → Event → List ℕ
 shown_by s (Learns effect nick) = (given_effect s effect).reply
 shown_by s event = []
@@ -34,15 +34,15 @@ shown_by s event = []
 abbrev pub all_shown : Settings → List Happening → List ℕ
 all_shown s happenings = flat_map (λ (h : Happening). shown_by s h.event) happenings
 
--- What was ordered meanwhile writes to a client just this, and does not close it.
+-- What was ordered meanwhile writes exactly this to a client, and does not close it.
 pub record WritesJust (client : ℕ) (bytes : List ℕ) (before after : Ordered) : Type 0 where
   pub told : List Order
   pub orders : after ≡ ordered before told
   pub written : written_to client told ≡ bytes
   pub is_open : list_any (closes client) told ≡ false
 
--- Whatever happens to a client that leaves, as long as its connection stands: all that it is shown is written to it, in order, and nothing
--- else, and it is not closed.
+-- Whatever happens to a client that is leaving, as long as it is connected: all that it is shown is written to it, in
+-- order, and nothing else, and it is not closed.
 abbrev pub LeaversAreShownAll : Type 0
 LeaversAreShownAll =
     (happenings : List Happening) (s : Settings) (calls : List Call) (since : Timer) (old new : Client) (before after : Ordered)

@@ -1,4 +1,4 @@
--- What is known of a node behind word of how it stands, and what an operator is told of it.
+-- What is known of a node after a report of its state, and what is logged of it.
 use Rattle.std.specs.Prelude.{ℕ, ◌&&◌, ◌||◌, Bool, true, false, not, max, min, nat_eq, nat_le, nat_lt, if◌then◌else◌, List, [], ◌∷◌, ◌++◌, Option, Some, None}
 use Rattle.node_notes.specs.declared.progress.Progress.{Progress}
 use Rattle.node_notes.specs.declared.status.Status.{Status}
@@ -18,12 +18,12 @@ use Rattle.driver.specs.declared.order.Order.TheVariants.{Log}
 use Rattle.driver.specs.Monitors.{at, is_over, outage}
 use Rattle.driver.specs.declared.node_monitor.hearing.TheConstants.{GOOD_RUN}
 
--- this is of another run than what was heard before
+-- this is of another run than the last report
 abbrev pub is_new_run : Option Status → Status → Bool
 is_new_run None status = true
 is_new_run (Some before) status = not (nat_eq before.boot status.boot)
 
--- it was heard before that the node leads in this term
+-- an earlier report said that the node leads in this term
 abbrev pub led_in : Option Status → ℕ → Bool
 led_in None term = false
 led_in (Some before) term = leads before && nat_eq before.term term
@@ -33,29 +33,29 @@ abbrev pub is_none : Option Cause → Bool
 is_none None = true
 is_none (Some cause) = false
 
--- the node was up when it was last heard of
+-- the node was up when it was last heard from
 abbrev pub was_up : Option Status → Bool
 was_up None = false
 was_up (Some before) = is_none before.down
 
--- a node that leads, and was not heard to lead in this term, was elected
+-- a node that leads, and did not lead in this term before, was elected
 abbrev pub is_elected : NodeMonitor → Status → Bool
 is_elected monitor status = leads status && not (led_in monitor.status status.term)
 
--- an operator is told that a node was elected in its term, where it was
+-- it is logged that a node was elected in its term, if it was
 abbrev pub elected_news : NodeMonitor → Status → List Order
 elected_news monitor status = if is_elected monitor status then Log (Elected monitor.id status.term) ∷ [] else []
 
--- the first word that a node is down, since it was up
+-- the first report that a node is down since it was up
 abbrev pub down_news : ℕ → Cause → Option Outage → List Order
 down_news id cause None = Log (Down id cause) ∷ []
 down_news id cause (Some since) = []
 
--- how long is waited: the first wait again where the node was up for a minute
+-- how long the wait is: the shortest again if the node was up for a minute
 abbrev pub wait_behind : NodeMonitor → ℕ → ℕ
 wait_behind monitor now = if is_over monitor.presence.up GOOD_RUN now then monitor.backoff.first else monitor.backoff.next
 
--- it is started again behind that wait, which is twice as long the next time, up to a limit
+-- it is started again after that wait, which doubles for the next time, up to a limit
 abbrev pub down_behind : NodeMonitor → ℕ → Option Outage → NodeMonitor
 down_behind monitor now None = record monitor {
   down = Some (outage now (wait_behind monitor now));
@@ -64,17 +64,17 @@ down_behind monitor now None = record monitor {
 }
 down_behind monitor now (Some since) = monitor
 
--- an operator is told that a node that hung answers again, in a run that began since
+-- it is logged that a node that hung answers again, in a run that began since
 abbrev pub answers_news : ℕ → Bool → List Order
 answers_news id false = []
 answers_news id true = Log (Answers id) ∷ []
 
--- an operator is told that a node is up in this run, unless it was up before
+-- it is logged that a node is up in this run, unless it was up before
 abbrev pub up_news : ℕ → ℕ → Bool → List Order
 up_news id boot true = []
 up_news id boot false = Log (Up id boot) ∷ []
 
--- One that hung hangs until a new run of it began: the run that hung is over for the others.
+-- One that hung hangs until a new run of it began: for the others the run that hung is over.
 abbrev pub hangs_on : Bool → Presence → Bool
 hangs_on new presence = presence.is_hanging && not new
 
@@ -103,9 +103,9 @@ abbrev pub is_raised : Option Status → Status → Bool
 is_raised None status = false
 is_raised (Some before) status = is_follower status.role && nat_lt before.term status.term
 
--- A node waits for a leader anew where one was heard of, itself or another, and where its term rose while it follows. For a risen
--- term it does so once only, until it hears of a leader or asks for votes itself: a node that can't be elected may ask again and
--- again, and is not to hold back the others.
+-- A node waits anew for a leader if it heard of one, itself or another, and if its term rose while it follows. For a
+-- risen term it does so only once, until it hears of a leader or asks for votes itself: a node that can't be elected
+-- may ask again and again, and must not hold back the others.
 abbrev pub waiting_behind : NodeMonitor → ℕ → Status → Bool → NodeMonitor
 waiting_behind monitor now status led =
     let is_led = led || leads status in
@@ -118,8 +118,8 @@ waiting_behind monitor now status led =
       };
     }
 
--- How far a worker is that was told so many notes, by what was known of it and what it tells: it never goes back, and is never
--- further than it was told.
+-- How far a worker with this many notes is, by what was known and what it reports: it never goes back, and is never
+-- further than its notes.
 abbrev pub progressed : Progress → ℕ → Progress → Progress
 progressed known told heard = record {
   done = max known.done (min heard.done told);
@@ -132,12 +132,13 @@ progressed known told heard = record {
 abbrev pub settles : ℕ → Status → ℕ → Bool
 settles note status done = nat_le note done && nat_eq status.applied status.last
 
--- what is known of the last claim of a node that stands so, and of which so many notes are done
+-- what is known of the last claim of a node, given its state and how many of its notes are done
 abbrev pub settled : Option Claimed → Status → ℕ → Option Claimed
 settled None status done = None
 settled (Some claim) status done = Some (record claim { is_settled = claim.is_settled || settles claim.note status done })
 
--- it stands so, its worker is so far, and a leader was heard of where it had more contacts with one than were known
+-- its state and its worker's progress are recorded, and a leader was heard of if it reports more contacts with one than
+-- were known
 abbrev pub told_behind : NodeMonitor → ℕ → ℕ → Status → Progress → NodeMonitor
 told_behind monitor now told status progress =
     record (waiting_behind monitor now status (nat_lt monitor.progress.contacts progress.contacts)) {
@@ -146,7 +147,8 @@ told_behind monitor now told status progress =
       claimed = settled monitor.claimed status (progressed monitor.progress told progress).done;
     }
 
--- the monitor of a node that is up, in a run that is new or not, or is down for this cause, where it was up before or was not
+-- the monitor of a node that is up, in a run that is new or not, or is down for this cause, and was up before or was
+-- not
 abbrev pub stood_behind : NodeMonitor → ℕ → Bool → Bool → Option Cause → NodeMonitor
 stood_behind monitor now new up None = up_behind monitor now new up
 stood_behind monitor now new up (Some cause) = down_behind monitor now monitor.down
@@ -155,40 +157,40 @@ stood_behind monitor now new up (Some cause) = down_behind monitor now monitor.d
 abbrev pub begins_run : Option Status → Status → Bool
 begins_run before status = is_none status.down && (not (was_up before) || is_new_run before status)
 
--- what is known of the node behind this word, where it was told so many notes
+-- what is known of the node after this report, given how many notes it was sent
 abbrev pub heard_behind : NodeMonitor → ℕ → ℕ → Status → Progress → NodeMonitor
 heard_behind monitor now told status progress =
     stood_behind (told_behind monitor now told status progress) now (begins_run monitor.status status) (was_up monitor.status) status.down
 
--- what is new of it: a run of it began, and requests may be lost that were not known to be
+-- what is new in it: a run of it began, and requests may be lost that were not known to be
 abbrev pub heard_of : NodeMonitor → ℕ → Status → Progress → Heard
 heard_of monitor told status progress = record {
   is_new = begins_run monitor.status status;
   has_lost = nat_lt monitor.progress.lost (progressed monitor.progress told progress).lost;
 }
 
--- an operator is told that a node answers again, that it is up, or that it is down, where that is new
+-- it is logged that a node answers again, that it is up, or that it is down, if that is new
 abbrev pub stood_news : NodeMonitor → Status → Option Cause → List Order
 stood_news monitor status None =
     answers_news monitor.id (monitor.presence.is_hanging && begins_run monitor.status status)
     ++ up_news monitor.id status.boot (was_up monitor.status)
 stood_news monitor status (Some cause) = down_news monitor.id cause monitor.down
 
--- what an operator is told
+-- what is logged
 abbrev pub heard_news : NodeMonitor → Status → List Order
 heard_news monitor status = elected_news monitor status ++ stood_news monitor status status.down
 
--- the run in which a node is up that stood so, if it is
+-- the run in which a node in this state is up, if it is
 abbrev pub boot_if : ℕ → Option Cause → Option ℕ
 boot_if boot None = Some boot
 boot_if boot (Some cause) = None
 
--- the run in which a node was up when it was last heard of, if it was
+-- the run in which a node was up when it was last heard from, if it was
 abbrev pub boot_up : Option Status → Option ℕ
 boot_up None = None
 boot_up (Some status) = boot_if status.boot status.down
 
--- an operator is told of a client that was turned away, once until the node is up again
+-- a client that was turned away is logged, once until the node is up again
 abbrev pub turned_away_news : NodeMonitor → List Order
 turned_away_news monitor = if monitor.visitors.has_turned_away then [] else Log (TurnedAway monitor.id) ∷ []
 

@@ -12,12 +12,12 @@ pub record Joined : Type 0 where
 abbrev pub no_channels : Joined
 no_channels = record { keyed = []; keys = []; plain = [] }
 
--- one more channel, by a key, or by none where it has no bytes
+-- one more channel, by a key, or without a key if it is empty
 abbrev pub with_channel : List ℕ → List ℕ → Joined → Joined
 with_channel channel [] line = record line { plain = line.plain ++ 44 ∷ channel }
 with_channel channel (byte ∷ key) line = record line { keyed = line.keyed ++ 44 ∷ channel; keys = line.keys ++ 44 ∷ byte ∷ key }
 
--- keys behind a space, where there are some
+-- keys after a space, if there are any
 abbrev pub key_text : List ℕ → List ℕ
 key_text [] = []
 key_text (comma ∷ keys) = 32 ∷ keys
@@ -26,7 +26,7 @@ key_text (comma ∷ keys) = 32 ∷ keys
 abbrev pub join_text : Joined → List ℕ
 join_text line = codes "JOIN " ++ drop 1 (line.keyed ++ line.plain) ++ key_text line.keys
 
--- and with it
+-- the line with its end
 abbrev pub join_bytes : Joined → List ℕ
 join_bytes line = join_text line ++ 13 ∷ 10 ∷ []
 
@@ -35,7 +35,7 @@ abbrev pub key_size : List ℕ → ℕ
 key_size [] = 0
 key_size (byte ∷ key) = length key + 2
 
--- a channel more fits in, with its key
+-- one more channel fits, with its key
 abbrev pub fits_in : Joined → List ℕ → List ℕ → Bool
 fits_in line channel key =
     nat_lt (length line.keyed + length line.plain + length line.keys + (length channel + key_size key)) (MOST_BYTES - WORD)

@@ -1,4 +1,5 @@
--- Clients that have a channel open are put out of it before it is joined again, so that their programs take the JOIN for a new one.
+-- Clients that have a channel open are kicked from it before it is joined again, so that their programs take the JOIN
+-- for a new one.
 use Rattle.std.specs.Prelude.{◌≡◌, ℕ, Bool, true, false, codes, List, [], ◌∷◌, ◌++◌, Option, Some, None}
 use Rattle.std.specs.BTreeMap.{keys}
 use Rattle.irc_line.specs.Lines.{Parts, parameter}
@@ -10,7 +11,7 @@ use Rattle.driver.specs.Nicks.{IsWritten}
 use Rattle.driver.specs.Opening.{closed, has_open}
 use Rattle.driver.specs.Rosters.{AreOthersSame, client_at}
 
--- the line that puts who has this nick out of a channel, since the server was gone
+-- the line that kicks the user with this nick from a channel, since the server was gone
 abbrev pub kick_line : List ℕ → List ℕ → List ℕ
 kick_line channel nick = codes ":bouncer.local KICK " ++ channel ++ 32 ∷ nick ++ codes " :The server was gone" ++ 13 ∷ 10 ∷ []
 
@@ -19,8 +20,8 @@ abbrev pub has_open_in : List ℕ → Option Client → Bool
 has_open_in name None = false
 has_open_in name (Some client) = has_open name client.channels
 
--- The client of this number, where it has the channel open: it is written this, where it is attached and its connection stands, and has
--- the channel open no more. All others are as they were.
+-- The client of this number, if it has the channel open: it is sent this, if it is attached and connected, and the
+-- channel is closed for it. All others are unchanged.
 pub record KicksClient (channel text : List ℕ) (number : ℕ) (old new : Told) : Type 0 where
   pub others : AreOthersSame number old.clients new.clients
   pub nobody : client_at old.clients number ≡ None → IsSame old new
@@ -30,17 +31,17 @@ pub record KicksClient (channel text : List ℕ) (number : ℕ) (old new : Told)
       → client_at new.clients number ≡ Some (record c { channels = closed channel c.channels })
   pub written : (c : Client) → client_at old.clients number ≡ Some c → has_open channel c.channels ≡ true → IsWritten (Some c) text old.orders new.orders
 
--- the same of the clients of these numbers, in this order
+-- for the clients of these numbers, in this order
 unfoldable pub KickEach : List ℕ → List ℕ → List ℕ → Told → Told → Type 0
 KickEach channel text [] old new = new ≡ old
 KickEach channel text (number ∷ numbers) old new =
     (behind : Told) × KicksClient channel text number old behind × KickEach channel text numbers behind new
 
--- where this is so, the clients that have the channel open that a line joins again are put out of it
+-- if this is so, the clients that have the channel open that a line joins again are kicked from it
 abbrev pub RejoinsIf : Bool → Parts → List ℕ → Told → Told → Type 0
 RejoinsIf false line nick old new = IsSame old new
 RejoinsIf true line nick old new = KickEach (parameter 0 line) (kick_line (parameter 0 line) nick) (keys old.clients.all) old new
 
--- a line joins a channel again where the server's connection is a session of this node
+-- a line joins a channel again if the server's connection is a session of this node
 abbrev pub Rejoins : Stage → ℕ → Parts → List ℕ → Told → Told → Type 0
 Rejoins stage node line nick old new = RejoinsIf (is_session_of stage node) line nick old new

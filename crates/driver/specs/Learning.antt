@@ -6,11 +6,11 @@ use Rattle.driver.specs.declared.driver.Driver.{Driver}
 use Rattle.driver.specs.Opening.{joined_as}
 use Rattle.driver.specs.Nicks.{AllAreWritten, nick_in, renaming}
 
--- these bytes, where they are a name
+-- these bytes, if they are a name
 abbrev pub name_if : List ℕ → Option (List ℕ)
 name_if bytes = if is_name bytes then Some bytes else None
 
--- the nick by which a client is shown a JOIN, where no session gave a nick and another one was asked for
+-- the nick by which a client is shown a JOIN, if no session gave a nick and another one was asked for
 abbrev pub nick_learnt : Option (List ℕ) → List ℕ → Option (List ℕ) → Option (List ℕ)
 nick_learnt (Some given) asked shown = None
 nick_learnt None asked None = None
@@ -26,11 +26,12 @@ abbrev pub LearnsIf : Option (List ℕ) → Driver → Driver → Type 0
 LearnsIf None old new = new ≡ old
 LearnsIf (Some nick) old new = Learns nick old new
 
--- Before an effect passes its nick is learnt, where it shows one that was not known.
+-- Before an effect passes its nick is learnt, if it shows one that was not known.
 abbrev pub LearnsNick : GateEffect → Driver → Driver → Type 0
 LearnsNick effect old new = LearnsIf (nick_learnt old.given old.settings.nick (joined_as effect)) old new
 
--- As long as no session gave a nick, a client is shown a JOIN by no nick but the one in force: behind what is learnt of the JOIN it is.
+-- As long as no session gave a nick, a client is shown a JOIN by no nick but the one in force: after learning from the
+-- JOIN it is in force.
 abbrev pub JoinsShowTheNick : Type 0
 JoinsShowTheNick =
     (effect : GateEffect) (nick : List ℕ) (old learnt : Driver) → LearnsNick effect old learnt

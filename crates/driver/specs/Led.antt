@@ -1,4 +1,4 @@
--- Of which node the connection to the server is.
+-- The node that the connection to the server belongs to.
 use Rattle.std.specs.Prelude.{◌≡◌, ℕ, List, Bool, Option, Some, None}
 use Rattle.wire_bytes.specs.declared.moment.Moment.{Moment}
 use Rattle.client_gate.specs.Gates.{GateEffect}
@@ -10,23 +10,24 @@ use Rattle.driver.specs.Leading.{IsLeader}
 use Rattle.driver.specs.Links.{node_of}
 use Rattle.driver.specs.Reports.{Hears}
 
--- a connection is of this node, or there is none
+-- a connection belongs to this node, or there is none
 abbrev pub IsOf : Option ℕ → Option ℕ → Type 0
 IsOf None leader = Unit {0}
 IsOf (Some node) leader = leader ≡ Some node
 
--- The connection to the server is of the node that leads in the greatest term, as far as the driver knows, or there is none.
+-- The connection to the server belongs to the leader of the greatest term, as far as the driver knows, or there is
+-- none.
 pub record IsOfLeader (driver : Driver) : Type 0 where
   pub leader : Option ℕ
   pub is_leader : IsLeader driver.monitors leader
   pub is_of : IsOf (node_of driver.link.stage) leader
 
--- Behind each report of a worker it is so.
+-- So it is after each report of a worker.
 abbrev pub IsOfLeaderHeard : Type 0
 IsOfLeaderHeard =
     (now : ℕ) (at : Moment) (node : ℕ) (status : Status) (effects : List GateEffect) (progress : Progress) (refused : Bool)
     (old new : Driver) → Hears now at node status effects progress refused old new → IsOfLeader new
 
--- And so it is whenever time passed.
+-- So it is after each tick.
 abbrev pub IsOfLeaderTicked : Type 0
 IsOfLeaderTicked = (now : ℕ) (at : Moment) (old new : Driver) → Ticks now at old new → IsOfLeader new

@@ -21,19 +21,19 @@ use Rattle.driver.specs.declared.node_monitor.hearing.TheConstants.{GOOD_RUN}
 use Rattle.driver.specs.declared.outgoing.TheConstants.{MOST_QUESTIONS}
 use Rattle.wire_bytes.specs.Limits.{node_limit}
 
--- What a client is given.
+-- What a client gets.
 pub record LimitsOfClients : Type 0 where
-  -- to register; to say something, and again behind a PING; for its Leave to be done
+  -- to register; to say something, and again after a PING; for its Leave to be done
   pub registers : REGISTERS_WITHIN ≡ 10000
   pub silence : SILENCE ≡ 120000
   pub leaves : LEAVES_WITHIN ≡ 5000
-  -- more is read of it while fewer requests wait; its gate takes 42 more, as many as a piece of 512 bytes may have
+  -- more is read from it while fewer requests wait; its gate takes 42 more, as many as a piece of 512 bytes may have
   pub waiting : client.MOST_WAITING ≡ 48
   pub room : client.MOST_WAITING + 42 ≤ gate.MOST_WAITING
 
--- What whoever guesses the password is given.
+-- What someone who guesses the password gets.
 pub record LimitsOfGuesses : Type 0 where
-  -- so many wrong ones of a minute wait for their answer alone; the others have a turn each, so far ahead at most
+  -- this many wrong ones a minute only wait for their answer; the others get a turn each, at most this far ahead
   pub first : FIRST ≡ 10
   pub minute : MINUTE ≡ 60000
   pub answered : ANSWERED_BEHIND ≡ 2000
@@ -42,31 +42,35 @@ pub record LimitsOfGuesses : Type 0 where
   -- no turn is further ahead than a client may take to register
   pub in_time : FURTHEST ≤ REGISTERS_WITHIN
 
--- What a node is given.
+-- What a node gets.
 pub record LimitsOfNodes : Type 0 where
   pub nodes : node.MOST_NODES ≡ node_limit
   -- notes that are not done
   pub waiting : node.MOST_WAITING ≡ 256
   -- how much longer each next node waits for a leader
   pub apart : APART ≡ 50
-  -- how long without an answer until it hangs, at least so many timeouts, and how lately others answered then; it is dead after so many timeouts
+  -- how long without an answer until it hangs, at least how many timeouts, and how lately others must have answered
+  -- then; after how many timeouts it is dead
   pub hangs : HANGS_AFTER ≡ 5000
   pub answers : QUIET_AFTER ≡ 2000
   pub sooner : QUIET_AFTER < HANGS_AFTER
   pub timeouts : TIMEOUTS ≡ 2
   pub dead : node.DEAD ≡ 10
-  -- the longest wait before it is started again, also while too few are up, and how long it is up until that is the first one again
+  -- the longest wait before it is started again, also while too few are up, and how long it must be up for the wait to
+  -- be the shortest again
   pub longest : node.LONGEST ≡ 60000
   pub short : SHORT_WAIT ≡ 2000
   pub good : GOOD_RUN ≡ 60000
 
--- What the server is given.
+-- What the server gets.
 pub record LimitsOfTheServer : Type 0 where
-  -- the first and the longest wait before it is tried again, and how long a session lasts behind which that is the first one
+  -- the first and the longest wait before the next try, and how long a session must last for the wait to be the first
+  -- one again
   pub first : FIRST_WAIT ≡ 1000
   pub longest : LONGEST_WAIT ≡ 60000
   pub good : GOOD_SESSION ≡ 60000
-  -- its silence, and again behind a PING; before it gave a session; as long as both, so that it is left after 150 seconds
+  -- its silence, and again after a PING; before it gave a session; as long as both, so that it is left after 150
+  -- seconds
   pub quiet : QUIET ≡ 75000
   pub unopened : UNOPENED ≡ 150000
   pub alike : QUIET + QUIET ≡ UNOPENED
@@ -80,10 +84,10 @@ pub record LimitsOfTheServer : Type 0 where
   pub keys : MOST_KEYS ≡ 256
   pub reason : MOST_REASON ≡ 300
 
--- When people are told how full the log is.
+-- The levels of the log at which people get a notice.
 pub record LimitsOfTheLog : Type 0 where
   pub filling : FILLING ≡ 800000
   pub nearly : NEARLY_FULL ≡ 950000
-  -- the last 1,000 places are kept for blank entries, sessions that end, and clients that attach
+  -- the last 1,000 places are reserved for blank entries, sessions that end, and clients that attach
   pub full : FULL + 1000 ≡ entry_limit
   pub entries : entry_limit ≡ 1000000

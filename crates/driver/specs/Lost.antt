@@ -1,4 +1,4 @@
--- What a client asked is told to its node again where it may be lost.
+-- What a client asked goes to its node again if it may be lost.
 use Rattle.std.specs.Prelude.{◌≡◌, ◌<◌, ℕ, Bool, true, false, nat_eq, List, [], ◌∷◌}
 use Rattle.std.specs.List.{list_any}
 use Rattle.wire_bytes.specs.declared.moment.Moment.{Moment}
@@ -18,7 +18,7 @@ is_among number numbers = list_any (nat_eq number) numbers
 abbrev pub AreAmong : List ℕ → List ℕ → Type 0
 AreAmong some all = (number : ℕ) → is_among number some ≡ true → is_among number all ≡ true
 
--- What was ordered between tells the node each request that waits of a client.
+-- The orders in between send the node each waiting request of a client.
 pub record TellsAll (s : Settings) (before : Ordered) (new : Client) (after : Ordered) : Type 0 where
   pub behind : List Call
   pub stands : Stands s behind new.gate
@@ -26,8 +26,8 @@ pub record TellsAll (s : Settings) (before : Ordered) (new : Client) (after : Or
   pub orders : after ≡ ordered before told
   pub all : AreAmong (numbers_of (gate s behind).waiting) (numbers_told told)
 
--- A client's node tells that what it was told of the client's may be lost. Whatever happens to the client behind that, and however often it is
--- asked again: each of its requests that waits was told to the node with that report, or behind it.
+-- A client's node reports that requests of the client may be lost. Whatever happens to the client after that, and
+-- however often they are sent again: each of its waiting requests went to the node with that report, or after it.
 abbrev pub AsksAgain : Type 0
 AsksAgain =
     (lost now : ℕ) (at : Moment) (refused : Bool) (happenings : List Happening) (s : Settings) (calls : List Call) (old new : Client) (before after : Ordered)
@@ -35,7 +35,7 @@ AsksAgain =
     → Stands s calls old.gate → may_be_lost lost old ≡ true
     → TellsAll s before new after
 
--- A request of a client was told behind these orders, behind which the next note that the client's node is told is none that may be lost.
+-- A request of a client was sent after these orders, and the client's next note after them is none that may be lost.
 pub record IsNotLost (lost number : ℕ) (new : Client) (after : Ordered) : Type 0 where
   pub before : Ordered
   pub next : lost < next_note before new.origin.0
@@ -43,8 +43,8 @@ pub record IsNotLost (lost number : ℕ) (new : Client) (after : Ordered) : Type
   pub orders : after ≡ ordered before told
   pub tells : is_among number (numbers_told told) ≡ true
 
--- A client's node tells that notes up to this one may be lost, and by that nothing is asked again. Whatever happened to the client before, from
--- where nothing waited on: each of its requests that waits was told by a later note.
+-- A client's node reports that notes up to this one may be lost, and nothing is sent again for that. Whatever happened
+-- to the client before, from a time when nothing waited on: each of its waiting requests went in a later note.
 abbrev pub OthersAreNotLost : Type 0
 OthersAreNotLost =
     (lost number : ℕ) (happenings : List Happening) (s : Settings) (calls : List Call) (old new : Client) (before after : Ordered)

@@ -1,4 +1,4 @@
--- What people are told where there is no server.
+-- What people are told when there is no server.
 use Rattle.std.specs.Prelude.{ℕ, zero, suc, ◌+◌, ◌-◌, ◌/◌, ◌%◌, nat_eq, if◌then◌else◌, codes, decimal, List, [], ◌++◌, Option, Some, None}
 use Rattle.driver.specs.declared.link.Stage.{Stage}
 use Rattle.driver.specs.declared.link.Stage.TheVariants.{Closing, Connecting, Idle, Open}
@@ -15,14 +15,14 @@ words_of Lost = codes "no connection"
 words_of Silent = codes "the server is silent"
 words_of LedNoMore = codes "the node leads no more"
 
--- how many milliseconds it takes until the server may be tried again; none where it is tried now
+-- how many milliseconds are left until the server may be tried again; none if it is being tried now
 abbrev pub try_in : Stage → ℕ → Option ℕ
 try_in (Idle since wait) now = Some (wait - (now - since.since))
 try_in (Closing since wait) now = Some (wait + (TIME_TO_CLOSE - (now - since.since)))
 try_in (Connecting node) now = None
 try_in (Open session) now = None
 
--- milliseconds in seconds, rounded up
+-- milliseconds as seconds, rounded up
 abbrev pub seconds_of : ℕ → ℕ
 seconds_of ms = if nat_eq (ms % 1000) 0 then ms / 1000 else ms / 1000 + 1
 
@@ -32,16 +32,16 @@ try_text None = codes "it is tried now."
 try_text (Some zero) = codes "it is tried as soon as a node leads."
 try_text (Some (suc ms)) = codes "next try in " ++ decimal (seconds_of (suc ms)) ++ codes " s."
 
--- why the last session ended, if there was one, behind a colon
+-- why the last session ended, if there was one, after a colon
 abbrev pub why_text : Option Ending → List ℕ
 why_text None = []
 why_text (Some why) = codes ": " ++ words_of why
 
--- what people are told where there is no server
+-- what people are told when there is no server
 abbrev pub missing_text : Option Ending → Option ℕ → List ℕ
 missing_text ended next = codes "There is no server" ++ why_text ended ++ codes "; " ++ try_text next
 
--- what people are told where there is no session that the server gave
+-- what people are told when there is no session that the server gave
 abbrev pub missing : Stage → Option Ending → ℕ → Option (List ℕ)
 missing (Idle since wait) ended now = Some (missing_text ended (try_in (Idle since wait) now))
 missing (Closing since wait) ended now = Some (missing_text ended (try_in (Closing since wait) now))

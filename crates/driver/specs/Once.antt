@@ -1,4 +1,4 @@
--- A client's requests are told to its node once, but where they may be lost.
+-- A client's requests go to its node once, unless they may be lost.
 use Rattle.std.specs.Prelude.{◌≡◌, ◌++◌, ℕ, Bool, false, List, [], ◌∷◌, map, flat_map}
 use Rattle.bouncer_tower.specs.Bodies.{TowerBody}
 use Rattle.buffer_commands.specs.declared.wire_line.WireLine.{WireLine}
@@ -28,12 +28,12 @@ abbrev pub number_in : Note TowerBody WireLine → List ℕ
 number_in (Ask (Asked origin number at action)) = number ∷ []
 number_in note = []
 
--- the number of the request that an order tells a node, if it does
+-- the number of the request that an order sends a node, if it does
 abbrev pub number_told : Order → List ℕ
 number_told (Submit node note) = number_in note
 number_told order = []
 
--- the numbers of all requests that orders tell, in order
+-- the numbers of all requests that orders send, in order
 abbrev pub numbers_told : List Order → List ℕ
 numbers_told orders = flat_map number_told orders
 
@@ -41,7 +41,7 @@ numbers_told orders = flat_map number_told orders
 abbrev pub numbers_of : List Request → List ℕ
 numbers_of requests = map (λ request. request.number) requests
 
--- What was told of a client is what its gate numbered meanwhile, each request once and in order.
+-- The requests sent for a client are those its gate numbered meanwhile, each once and in order.
 pub record TellsOnce (s : Settings) (calls : List Call) (before : Ordered) (new : Client) (after : Ordered) : Type 0 where
   pub behind : List Call
   pub stands : Stands s behind new.gate
@@ -49,8 +49,9 @@ pub record TellsOnce (s : Settings) (calls : List Call) (before : Ordered) (new 
   pub orders : after ≡ ordered before told
   pub once : numbers_of (all_requests s behind) ≡ numbers_of (all_requests s calls) ++ numbers_told told
 
--- What happens to a client at a moment: bytes of it come, which are answered at a later one where its password is wrong, something comes of a request, under a nick, its connection is gone, it is to leave, its
--- node tells what may be lost and whether it refused a turn, or time passes, in which it is read or not.
+-- What happens to a client at a moment: bytes of it come, which are answered later if its password is wrong; an effect
+-- of a request comes, under a nick; its connection is gone; it is to leave; its node reports what may be lost and
+-- whether it refused a turn; or time passes, in which it is read or not.
 pub data Event : Type 0 where
   Speaks : List ℕ → ℕ → Event
   Learns : GateEffect → List ℕ → Event
@@ -59,7 +60,7 @@ pub data Event : Type 0 where
   Words : ℕ → Bool → Event
   Waits : Bool → ℕ → Event
 
--- This happens to a client, whatever calls its gate stands behind.
+-- This happens to a client, whatever calls its gate has had.
 abbrev pub Happens : Event → ℕ → Moment → Client → Ordered → Client → Ordered → Type 0
 Happens (Speaks bytes due) now at old before new after =
     (s : Settings) (calls : List Call) → Stands s calls old.gate → Receives bytes now at due s calls old before new after
@@ -74,7 +75,7 @@ Happens (Words lost refused) now at old before new after =
 Happens (Waits reads timeout) now at old before new after =
     (s : Settings) (calls : List Call) → Stands s calls old.gate → Ticks reads timeout now at s calls old before new after
 
--- what waits is asked again: it may be lost, or is held up
+-- what waits is sent again: it may be lost, or is held up
 abbrev pub asks_again : Event → ℕ → Client → Bool
 asks_again (Words lost refused) now c = may_be_lost lost c
 asks_again (Waits reads timeout) now c = is_stuck timeout now c
@@ -101,7 +102,8 @@ AreQuiet (h ∷ more) old before new after =
     × (client : Client) × (orders : Ordered)
     × Happens h.event h.now h.at old before client orders × AreQuiet more client orders new after
 
--- However long nothing that a client asked may be lost, and nothing holds it up: each of its requests is told once, and in order.
+-- As long as nothing that a client asked may be lost, and nothing holds it up: each of its requests is sent once, and
+-- in order.
 abbrev pub AsksOnce : Type 0
 AsksOnce =
     (happenings : List Happening) (s : Settings) (calls : List Call) (old new : Client) (before after : Ordered)
@@ -112,14 +114,14 @@ abbrev pub IsAskOf : Origin → Note TowerBody WireLine → Type 0
 IsAskOf origin (Ask (Asked other number at action)) = other ≡ origin
 IsAskOf origin note = ⊥
 
--- an operator is told that this client registered, that it is closed, or that it left
+-- it is logged that this client registered, that it is closed, or that it left
 abbrev pub IsNewsOf : Origin → News → Type 0
 IsNewsOf origin (Attached other) = other ≡ origin
 IsNewsOf origin (Left other) = other ≡ origin
 IsNewsOf origin (Evicted other why) = other ≡ origin
 IsNewsOf origin news = ⊥
 
--- an order is of this client: its node is told a request of it, it is written to or closed, or an operator is told of it
+-- an order is of this client: its node gets a request of it, it is written to or closed, or it is logged
 abbrev pub IsFor : Origin → Order → Type 0
 IsFor origin (Submit node note) = (node ≡ origin.0) × IsAskOf origin note
 IsFor origin (Write client bytes) = client ≡ origin.2
@@ -138,7 +140,7 @@ pub record TellsOwn (origin : Origin) (before after : Ordered) : Type 0 where
   pub orders : after ≡ ordered before told
   pub own : TellsOnly origin told
 
--- Whatever happens to a client: what it asks goes to its own node, under its own origin, and what is written goes to it.
+-- Whatever happens to a client: its requests go to its own node, under its own origin, and what is written goes to it.
 abbrev pub AsksOwn : Type 0
 AsksOwn =
     (happenings : List Happening) (s : Settings) (calls : List Call) (old new : Client) (before after : Ordered)

@@ -8,16 +8,16 @@ use Rattle.upstream_claim.specs.declared.effect.ClaimsEffect.TheVariants as clai
 use Rattle.request_once.specs.declared.answer.Answer.TheVariants as answer
 use Rattle.client_gate.specs.Gates.{GateEffect}
 
--- what stands behind the first space, if there is one
+-- the bytes after the first space, if there is one
 abbrev pub behind_space : List ℕ → List ℕ
 behind_space [] = []
 behind_space (byte ∷ more) = if byte == 32 then more else behind_space more
 
--- what stands before the first such byte
+-- the bytes before the first occurrence of a byte
 abbrev pub upto : ℕ → List ℕ → List ℕ
 upto mark bytes = take_while (λ b. not (b == mark)) bytes
 
--- of a line, behind the mark of its prefix: the nick in the prefix
+-- the nick in the prefix of a line, without the prefix's colon
 abbrev pub source_in : List ℕ → List ℕ
 source_in line = upto 33 (upto 32 line)
 
@@ -33,7 +33,7 @@ first_in line = upto 32 (behind_space (behind_space line))
 abbrev pub second_in : List ℕ → List ℕ
 second_in line = upto 32 (behind_space (behind_space (behind_space line)))
 
--- the spelling of a line with a prefix whose command is JOIN
+-- the bytes of a line with a prefix whose command is JOIN
 abbrev pub is_join : List ℕ → Bool
 is_join [] = false
 is_join (byte ∷ line) = byte == 58 && starts_with nat_eq (behind_space line) (codes "JOIN ")
@@ -48,25 +48,25 @@ abbrev pub channel_joined : List ℕ → Option (List ℕ)
 channel_joined [] = None
 channel_joined (byte ∷ line) = if is_join (byte ∷ line) then Some (first_in line) else None
 
--- a PART of who has this nick
+-- a PART by this nick
 abbrev pub is_part : List ℕ → List ℕ → Bool
 is_part nick line = same_bytes (command_in line) (codes "PART") && same_name (source_in line) nick
 
--- a KICK of who has this nick
+-- a KICK of this nick
 abbrev pub is_kick : List ℕ → List ℕ → Bool
 is_kick nick line = same_bytes (command_in line) (codes "KICK") && same_name (second_in line) nick
 
--- the channel that such a line, with a prefix, puts who has this nick out of
+-- the channel that such a line, with a prefix, closes for this nick
 abbrev pub channel_left : List ℕ → List ℕ → Option (List ℕ)
 channel_left nick [] = None
 channel_left nick (byte ∷ line) = if byte == 58 && (is_part nick line || is_kick nick line) then Some (first_in line) else None
 
--- by which nick an effect shows its client that someone joins a channel, if it does
+-- the nick by which an effect shows its client that someone joins a channel, if it does
 abbrev pub joined_as : GateEffect → Option (List ℕ)
 joined_as (answer.Effect (claims.Inner (fence.Inner (effect.Show origin shown)))) = nick_joining shown
 joined_as other = None
 
--- the channel that it opens so
+-- the channel that it opens in this way
 abbrev pub opened_by : GateEffect → Option (List ℕ)
 opened_by (answer.Effect (claims.Inner (fence.Inner (effect.Show origin shown)))) = channel_joined shown
 opened_by other = None
@@ -98,6 +98,6 @@ abbrev pub closed_if : Option (List ℕ) → List (List ℕ) → List (List ℕ)
 closed_if None names = names
 closed_if (Some name) names = closed name names
 
--- those that are open behind an effect, at a client of this nick
+-- those that are open after an effect, at a client of this nick
 abbrev pub open_behind : List ℕ → GateEffect → List (List ℕ) → List (List ℕ)
 open_behind nick effect names = closed_if (closed_by nick effect) (opened_if (opened_by effect) names)

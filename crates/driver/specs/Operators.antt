@@ -1,9 +1,9 @@
--- What an operator is told.
+-- What is logged for the operator.
 use Rattle.std.specs.Prelude.{ℕ, Option, Some, None}
 use Rattle.driver.specs.declared.news.News.{News}
 use Rattle.driver.specs.declared.news.News.TheVariants.{Attached, Left, Evicted, NotJoined, Elected, Opened, Unopened, Closed, Down, Up, Hangs, Answers, TooFew, Enough, TurnedAway, LogFills, WrongPassword, WrongPasswords}
 
--- the node that a line is of, where it is of one
+-- the node that a log line is about, if it is about one
 abbrev pub node_of : News → Option ℕ
 node_of (Attached origin) = Some origin.0
 node_of (Left origin) = Some origin.0

@@ -1,4 +1,4 @@
--- Where effects that left a node go.
+-- Where effects from a node go.
 use Rattle.std.specs.Prelude.{◌≡◌, ℕ, true, false, List, [], ◌∷◌, None, Some}
 use Rattle.bouncer_tower.specs.Hosting.{class_of}
 use Rattle.client_gate.specs.Gates.{GateEffect}
@@ -23,8 +23,8 @@ use Rattle.driver.specs.Serving.{Hears}
 use Rattle.driver.specs.Telling.{Ordered}
 use Rattle.driver.specs.Writing.{link_passed}
 
--- An effect for the client of this origin is heard by it, where there is one; all others are as they were, one of another origin that has
--- the same number too.
+-- An effect for the client of this origin is heard by it, if there is one; all others are unchanged, even one of
+-- another origin with the same number.
 pub record HearsOne (now : ℕ) (at : Moment) (nick : List ℕ) (origin : Origin) (effect : GateEffect) (old new : Told) : Type 0 where
   pub others : AreOthersSame origin.2 old.clients new.clients
   pub nobody : client_at old.clients origin.2 ≡ None → (new.clients ≡ old.clients) × (new.orders ≡ old.orders)
@@ -37,15 +37,15 @@ pub record HearsOne (now : ℕ) (at : Moment) (nick : List ℕ) (origin : Origin
       (λ s calls c client. Hears effect nick now at s calls c old.orders client new.orders)
       origin.2 new.clients
 
--- An effect is for the client of this origin: where the buffers close it by that, it is told why, and so is an operator; then it hears the
--- effect, reworded where the server ends the session.
+-- An effect is for the client of this origin: if the buffers close it by that, it gets the reason and that is logged;
+-- then it hears the effect, reworded if the server ends the session.
 pub record ReachesClient (now : ℕ) (at : Moment) (nick : List ℕ) (origin : Origin) (effect : GateEffect) (old new : Told) : Type 0 where
   pub told : Ordered
   pub evicts : IsEvicted (client_at old.clients origin.2) origin effect old.orders told
   pub hears : HearsOne now at nick origin (reworded nick effect) (crowd old.clients told) new
 
--- By an effect that joins a channel anew, in a session of this node, clients are put out of it; one for a client goes to that client, as it
--- hears it, and others nowhere.
+-- An effect that joins a channel anew, in a session of this node, kicks clients from it; one for a client goes to that
+-- client, as it hears it, and others go nowhere.
 abbrev pub PassesBy : Class Parts → ℕ → Moment → Stage → List ℕ → ℕ → GateEffect → Told → Told → Type 0
 PassesBy (To origin) now at stage nick node effect old new = ReachesClient now at nick origin effect old new
 PassesBy (Rejoin session line) now at stage nick node effect old new =
@@ -53,7 +53,8 @@ PassesBy (Rejoin session line) now at stage nick node effect old new =
 PassesBy (Hand session number line) now at stage nick node effect old new = new ≡ old
 PassesBy Nowhere now at stage nick node effect old new = new ≡ old
 
--- An effect passes: the nick that it shows is learnt, and then it goes where it is for; a channel that it joins anew waits to be joined.
+-- An effect passes: the nick that it shows is learnt, and then it goes to whoever it is for; a channel that it joins
+-- anew waits to be joined.
 pub record Passes (now : ℕ) (at : Moment) (node : ℕ) (effect : GateEffect) (old new : Driver) : Type 0 where
   pub learnt : Driver
   pub learns : LearnsNick effect old learnt

@@ -8,7 +8,7 @@ use Rattle.driver.specs.Dropping.{dropping_begun, dropping_handed, drops, waitin
 use Rattle.driver.specs.Outgoing.{Waiting, asks_names, is_about, next_piece, nothing_waits, with_join, with_opening, without_next}
 use Rattle.driver.specs.Writing.{unheard_behind}
 
--- what waits in a session, and how many lines were dropped so far, where a drop goes on
+-- what waits in a session, and how many lines were dropped so far, while a drop goes on
 pub record Queue : Type 0 where
   pub waiting : Waiting
   pub dropping : Option ℕ
@@ -17,8 +17,9 @@ pub record Queue : Type 0 where
 abbrev pub nothing_queued : Queue
 nothing_queued = record { waiting = nothing_waits; dropping = None }
 
--- A turn of a session: lines are to go before all else, a node hands out a line, a channel is to be joined again, by a key or none, or what goes next goes out, if something does; questions
--- go where they are due. DROP WAITING is said where something waits, or a drop ends.
+-- A turn of a session: lines are to go before all else; a node hands out a line; a channel is to be joined again, by a
+-- key or none; what goes next goes out, if there is something, and questions if they are due; DROP WAITING is said
+-- while something waits; or a drop ends.
 pub data Turn : Type 0 where
   Open : List Parts → Turn
   Hand : Parts → Turn
@@ -27,7 +28,7 @@ pub data Turn : Type 0 where
   Drop : Turn
   End : Turn
 
--- what waits behind a turn
+-- what waits after a turn
 abbrev pub behind : Turn → Queue → Queue
 behind (Open lines) queue = record queue { waiting = with_opening lines queue.waiting }
 behind (Hand line) queue = record { waiting = with_handed queue.dropping line queue.waiting; dropping = dropping_handed queue.dropping line }
@@ -39,12 +40,12 @@ behind Drop queue = record {
 }
 behind End queue = record queue { dropping = None }
 
--- what waits behind these turns
+-- what waits after these turns
 unfoldable pub at_last : List Turn → Queue → Queue
 at_last [] queue = queue
 at_last (turn ∷ turns) queue = at_last turns (behind turn queue)
 
--- the line that goes out, if it is one that is said
+-- the line that goes out, if it is a said line
 abbrev pub said_in : Option Piece → List Parts
 said_in None = []
 said_in (Some (Opens line)) = []
@@ -60,16 +61,16 @@ piece_in (Go due) queue = next_piece due queue.waiting
 piece_in Drop queue = None
 piece_in End queue = None
 
--- the lines that are said, of those that go out in these turns
+-- the said lines among those that go out in these turns
 unfoldable pub said_out : List Turn → Queue → List Parts
 said_out [] queue = []
 said_out (turn ∷ turns) queue = said_in (piece_in turn queue) ++ said_out turns (behind turn queue)
 
--- a line that is handed out, if it is said
+-- a line that is handed out, if it is a said line
 abbrev pub if_said : Parts → List Parts
 if_said line = if asks_names line then [] else line ∷ []
 
--- the line that is handed out in a turn, if one is, and it is said
+-- the line that is handed out in a turn, if one is, and it is a said line
 abbrev pub handed_in : Turn → List Parts
 handed_in (Open lines) = []
 handed_in (Hand line) = if_said line
@@ -78,7 +79,7 @@ handed_in (Go due) = []
 handed_in Drop = []
 handed_in End = []
 
--- the lines that are said, of those that are handed out in these turns
+-- the said lines among those that are handed out in these turns
 unfoldable pub said_handed : List Turn → List Parts
 said_handed [] = []
 said_handed (turn ∷ turns) = handed_in turn ++ said_handed turns
@@ -122,8 +123,8 @@ IsMerged ones others (line ∷ all) =
     ((more : List Parts) × (ones ≡ line ∷ more) × IsMerged more others all)
     ⊎ ((more : List Parts) × (others ≡ line ∷ more) × IsMerged ones more all)
 
--- Over every list of turns of a session: the lines that are said and were handed out are those that went out or wait, and those that were
--- dropped, each once and in order; where nobody says DROP WAITING all of them go out or wait.
+-- Over every list of turns of a session: the said lines that were handed out are those that went out or wait, and those
+-- that were dropped, each once and in order; if nobody says DROP WAITING all of them go out or wait.
 pub record SaidGoInOrder : Type 0 where
   pub all :
       (turns : List Turn)
@@ -132,13 +133,14 @@ pub record SaidGoInOrder : Type 0 where
       (turns : List Turn) → list_any is_drop turns ≡ false
       → said_out turns nothing_queued ++ (at_last turns nothing_queued).waiting.said ≡ said_handed turns
 
--- the queue behind turns of a session, and DROP WAITING there
+-- the queue after turns of a session, and DROP WAITING there
 abbrev pub dropped_at : List Turn → Queue
 dropped_at earlier = behind Drop (at_last earlier nothing_queued)
 
--- Whatever happened in a session before DROP WAITING is said: until that drop ends no line that is said goes out, and none waits, whatever is handed
--- out; as many count as dropped as waited or were handed out, as far as 64 bits count, where no drop went on before; and once it ended, what is handed out
--- goes out in order, each line once, as long as nobody says DROP WAITING.
+-- Whatever happened in a session before DROP WAITING is said: until that drop ends no said line goes out, and none
+-- waits, whatever is handed out; as many count as dropped as waited or were handed out, as far as 64 bits count, if no
+-- drop went on before; and once it ended, what is handed out goes out in order, each line once, as long as nobody says
+-- DROP WAITING.
 pub record DropsWhatWaits : Type 0 where
   pub silent :
       (earlier turns : List Turn) → list_any is_end turns ≡ false
@@ -152,42 +154,43 @@ pub record DropsWhatWaits : Type 0 where
       → let queue = behind End (at_last turns (dropped_at earlier)) in
       said_out later queue ++ (at_last later queue).waiting.said ≡ said_handed later
 
--- each of these questions asks of a channel of which none of those before it does
+-- no two of these questions are for the same channel
 unfoldable pub AreApart : List Parts → List Parts → Type 0
 AreApart before [] = Unit {0}
 AreApart before (line ∷ more) = (list_any (is_about (parameter 0 line)) before ≡ false) × AreApart (before ++ line ∷ []) more
 
--- Over every list of turns: a question goes out only where nothing that is said waits, and of what waits no two ask of one channel.
+-- Over every list of turns: a question goes out only while no said line waits, and no two waiting questions are for the
+-- same channel.
 pub record QuestionsWait : Type 0 where
   pub behind :
       (turns : List Turn) (due : Bool) (line : Parts) → next_piece due (at_last turns nothing_queued).waiting ≡ Some (Says line)
       → asks_names line ≡ true → (at_last turns nothing_queued).waiting.said ≡ []
   pub apart : (turns : List Turn) → AreApart [] (at_last turns nothing_queued).waiting.questions
 
--- how many lines that are said count as not heard of behind what goes out, if something does
+-- how many said lines count as not heard of, after what goes out, if there is something
 abbrev pub unheard_if : Option Piece → ℕ → ℕ
 unheard_if None unheard = unheard
 unheard_if (Some piece) unheard = unheard_behind piece unheard
 
--- the same behind these turns
+-- and after these turns
 unfoldable pub unheard_at_last : List Turn → Queue → ℕ → ℕ
 unheard_at_last [] queue unheard = unheard
 unheard_at_last (turn ∷ turns) queue unheard = unheard_at_last turns (behind turn queue) (unheard_if (piece_in turn queue) unheard)
 
--- Over every list of turns, from where the server was heard on: as many lines count as not heard of as are said and went out, as far as 64
--- bits count.
+-- Over every list of turns, from the moment the server was heard: as many lines count as not heard of as said lines
+-- went out, as far as 64 bits count.
 abbrev pub SaidAreCounted : Type 0
 SaidAreCounted =
     (turns : List Turn) (queue : Queue) → unheard_at_last turns queue 0 ≡ min (length (said_out turns queue)) (2 ^ 64 - 1)
 
--- the line that goes out, if it is one that goes before all else
+-- the line that goes out, if it goes before all else
 abbrev pub opened_in : Option Piece → List Parts
 opened_in None = []
 opened_in (Some (Opens line)) = line ∷ []
 opened_in (Some (Joins line)) = []
 opened_in (Some (Says line)) = []
 
--- of the lines that go before all else, those that go out in these turns
+-- the lines that go before all else, among those that go out in these turns
 unfoldable pub opened_out : List Turn → Queue → List Parts
 opened_out [] queue = []
 opened_out (turn ∷ turns) queue = opened_in (piece_in turn queue) ++ opened_out turns (behind turn queue)

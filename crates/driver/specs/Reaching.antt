@@ -21,28 +21,28 @@ use Rattle.driver.specs.Once.{TellsOwn}
 use Rattle.driver.specs.Rosters.{client_at}
 use Rattle.driver.specs.Waking.{awake}
 
--- What is for the client of this origin reaches no other: each client of another origin is as it was, also one that has the same number,
--- and what is ordered is of this client alone.
+-- What is for the client of this origin reaches no other: each client of another origin is unchanged, even one with the
+-- same number, and what is ordered is of this client alone.
 pub record Reaches (origin : Origin) (old new : Told) : Type 0 where
   pub others :
       (number : ℕ) (c : Client) → client_at old.clients number ≡ Some c → same_origin c.origin origin ≡ false
       → client_at new.clients number ≡ Some c
   pub own : TellsOwn origin old.orders new.orders
 
--- Each client is as it was, but for the channels that it has open.
+-- Each client is unchanged, except for the channels that it has open.
 pub record AreSameButOpen (old new : Clients) : Type 0 where
   pub same :
       (number : ℕ) (c : Client) → client_at old number ≡ Some c
       → (d : Client) × (client_at new number ≡ Some d) × (d ≡ record c { channels = d.channels })
 
--- what is for no client changes none; of clients that are put out of a channel it changes what they have open
+-- what is for no client changes none; for clients that are kicked from a channel it changes what they have open
 abbrev pub ReachesBy : Class Parts → Told → Told → Type 0
 ReachesBy (To origin) old new = Reaches origin old new
 ReachesBy (Rejoin session line) old new = AreSameButOpen old.clients new.clients
 ReachesBy (Hand session number line) old new = new.clients ≡ old.clients
 ReachesBy Nowhere old new = new.clients ≡ old.clients
 
--- effects in turn; before each its nick is learnt, where it shows one that was not known
+-- effects in turn; before each its nick is learnt, if it shows one that was not known
 unfoldable pub ReachEach : List GateEffect → Driver → Driver → Type 0
 ReachEach [] old new = new ≡ old
 ReachEach (effect ∷ effects) old new =

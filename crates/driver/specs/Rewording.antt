@@ -1,5 +1,5 @@
--- What a client hears where the server ends the bouncer's session. The server says so by a line to the bouncer, which a client's program
--- would take for word to itself, and hang up by.
+-- What a client hears when the server ends the bouncer's session. The server says so by a line to the bouncer, which a
+-- client's program would take as meant for itself, and hang up.
 use Rattle.std.specs.Prelude.{◌≡◌, ℕ, ◌-◌, Bool, ◌&&◌, ◌||◌, ◌==◌, if◌then◌else◌, nat_eq, codes, length, IsTrue, List, [], ◌∷◌, ◌++◌, Option, Some, None}
 use Rattle.std.specs.List.{starts_with}
 use Rattle.bouncer_tower.specs.Hosting.{class_of}
@@ -17,16 +17,16 @@ use Rattle.driver.specs.Nicks.{notice}
 use Rattle.driver.specs.Parameters.{last_parameter, nick_or_server}
 use Rattle.driver.specs.Opening.{behind_space}
 
--- a text behind a colon, where there is one
+-- a text after a colon, if it is not empty
 abbrev pub behind_colon : List ℕ → List ℕ
 behind_colon [] = []
 behind_colon (byte ∷ text) = codes ": " ++ byte ∷ text
 
--- the KILL of who has this nick
+-- the KILL of the user with this nick
 abbrev pub is_kill : List ℕ → Parts → Bool
 is_kill nick line = has_command (codes "KILL") line && same_name nick (parameter 0 line)
 
--- what a client is told where the server ends the session by this line: its last words, or who killed the nick, and why
+-- what a client gets when the server ends the session by this line: its last words, or who killed the nick, and why
 abbrev pub ending_of : List ℕ → Parts → Option (List ℕ)
 ending_of nick line =
     if has_command (codes "ERROR") line
@@ -36,21 +36,21 @@ ending_of nick line =
     then Some (codes "The server ends the session: killed by " ++ nick_or_server (source line) ++ behind_colon (parameter 1 line))
     else None
 
--- the same of the line that was read, if one was
+-- by the line that was read, if one was
 abbrev pub ending_in : List ℕ → Option Parts → Option (List ℕ)
 ending_in nick None = None
 ending_in nick (Some line) = ending_of nick line
 
--- what stands behind the prefix of a line, by its spelling
+-- the part of a line after its prefix
 abbrev pub unprefixed : List ℕ → List ℕ
 unprefixed [] = []
 unprefixed (byte ∷ line) = if byte == 58 then behind_space line else byte ∷ line
 
--- a line may be such a one, by the front of its command
+-- the start of a line's command allows it to be such a line
 abbrev pub may_end : List ℕ → Bool
 may_end shown = starts_with nat_eq (unprefixed shown) (codes "ERROR") || starts_with nat_eq (unprefixed shown) (codes "KILL")
 
--- the spelling of a NOTICE of `*status` that tells who has this nick a text
+-- the bytes of a NOTICE of `*status` with a text for this nick
 abbrev pub noticed : List ℕ → List ℕ → List ℕ
 noticed nick text = spelling (message (Some (codes "*status!bouncer@local")) (codes "NOTICE") nick text)
 
@@ -59,7 +59,8 @@ abbrev pub told_instead : Option (List ℕ) → List ℕ → List ℕ → List �
 told_instead None nick shown = shown
 told_instead (Some text) nick shown = noticed nick text
 
--- what a client of this nick hears of what is shown: a NOTICE in place of a line by which the server ends the session, else the same
+-- what a client of this nick hears of what is shown: a NOTICE instead of a line by which the server ends the session,
+-- else what is shown
 abbrev pub worded : List ℕ → List ℕ → List ℕ
 worded nick shown = told_instead (ending_in nick (canonical shown (judged shown))) nick shown
 
@@ -69,8 +70,9 @@ reworded nick (answer.Effect (claims.Inner (fence.Inner (Show origin shown)))) =
     answer.Effect (claims.Inner (fence.Inner (Show origin (worded nick shown))))
 reworded nick other = other
 
--- Whatever line the server says: one by which it ends the session is told by a NOTICE in its place, any other is shown as it came. The NOTICE
--- is spelled as those of `*status` are. Where an effect goes, and what it makes of a gate, stays the same.
+-- Whatever line the server says: one by which it ends the session becomes a NOTICE in its place, any other is shown as
+-- it came. The NOTICE has the form of those of `*status`. Where an effect goes, and what it makes of a gate, stays the
+-- same.
 pub record RewordsEndings : Type 0 where
   pub lines :
       (nick : List ℕ) (line : Parts) → IsTrue (is_line line) → IsShort line

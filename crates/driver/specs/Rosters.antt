@@ -1,4 +1,4 @@
--- What happens to one of all clients.
+-- What happens to one of the clients.
 use Rattle.std.specs.Prelude.{◌≡◌, ◌-◌, ◌&&◌, ℕ, Bool, true, false, not, nat_le, if◌then◌else◌, List, [], length, Option, Some, None, slice_get}
 use Rattle.std.specs.Ordering.{nat_cmp}
 use Rattle.std.specs.BTreeMap.{get}
@@ -35,12 +35,13 @@ abbrev pub is_attached_in : Option Client → Bool
 is_attached_in None = false
 is_attached_in (Some client) = client.is_attached
 
--- nothing more is taken of a client, if there is one: it leaves, its connection is gone, or its password was wrong
+-- nothing more is taken from a client, if there is one: it is leaving, its connection is gone, or its password was
+-- wrong
 abbrev pub is_leaving_in : Option Client → Bool
 is_leaving_in None = false
 is_leaving_in (Some client) = is_shut client
 
--- the password of a client, if there is one, was wrong: by this origin it is still to be told so
+-- the password of a client, if there is one, was wrong: the client of this origin has not been answered yet
 abbrev pub refused_by : Option Refusal → Origin → Option Origin
 refused_by None origin = None
 refused_by (Some refusal) origin = Some origin
@@ -49,7 +50,7 @@ abbrev pub refused_in : Option Client → Option Origin
 refused_in None = None
 refused_in (Some client) = refused_by client.refused client.origin
 
--- bytes are read that may bring notes to a node of which this is known: not while as many as may wait already
+-- bytes are read that may bring notes to a node of which this is known: not while it has no room for more
 abbrev pub takes_notes : Ordered → Option NodeMonitor → Bool
 takes_notes orders None = true
 takes_notes orders (Some monitor) = not (is_full (told_to orders monitor.id) monitor.progress)
@@ -63,41 +64,43 @@ is_read_for orders monitors (Some node) = takes_notes orders (slice_get monitors
 abbrev pub reading_limit : ℕ
 reading_limit = MOST_WAITING
 
--- As many requests of a client wait at its gate, behind whatever calls of it, as may while more is read.
+-- A client has so many requests waiting at its gate, after any calls of it, that no more is read.
 abbrev pub IsFullIn : Bool → Option Client → Type 0
 IsFullIn full None = full ≡ false
 IsFullIn full (Some c) = (s : Settings) (calls : List Call) → Stands s calls c.gate → full ≡ nat_le reading_limit (length (gate s calls).waiting)
 
--- Bytes are read of a client, if there is one: not while as many notes of its node wait as may, or as many of its requests.
+-- Bytes are read from a client, if there is one: not while too many notes of its node wait, or too many of its
+-- requests.
 abbrev pub IsReadOf : Bool → Ordered → List NodeMonitor → Option Client → Type 0
 IsReadOf reads orders monitors client =
     (full : Bool) × IsFullIn full client × (reads ≡ (is_read_for orders monitors (node_in client) && not full))
 
--- all other numbers have the clients that they had
+-- all other numbers keep their clients
 abbrev pub AreOthersSame : ℕ → Clients → Clients → Type 0
 AreOthersSame number old new = (other : ℕ) → (number ≡ other → ⊥) → client_at new other ≡ client_at old other
 
--- a client behind these calls of its gate is kept, unless its connection is gone and all that it asked for is done
+-- a client after these calls of its gate is kept, unless its connection is gone and all its requests are done
 abbrev pub kept : Settings → List Call → Client → Option Client
 kept s calls c = if c.is_gone && is_idle (gate s calls).waiting then None else Some c
 
--- the client of this number, where there is one, is kept or not
+-- the client of this number, if there is one, is kept or not
 abbrev pub IsKept : ℕ → Clients → Clients → Type 0
 IsKept number old new =
     (s : Settings) (calls : List Call) (c : Client) → client_at old number ≡ Some c → Stands s calls c.gate → client_at new number ≡ kept s calls c
 
--- A client became this one, behind calls of its gate that any reader of the gate knows, and is kept by its number, or not.
+-- A client became this one, after calls of its gate that any reader of the gate knows, and is kept by its number, or
+-- not.
 pub record Becomes (happens : Client → Type 0) (number : ℕ) (s : Settings) (new : Clients) : Type 0 where
   pub client : Client
   pub happened : happens client
   pub is_kept : (calls : List Call) → Stands s calls client.gate → client_at new number ≡ kept s calls client
 
--- This happens to a client of this number, where there is one, behind whatever calls of its gate.
+-- This happens to a client of this number, if there is one, whatever calls its gate has had.
 abbrev pub Serves : (Client → Type 0) → (Settings → List Call → Client → Client → Type 0) → ℕ → Clients → Type 0
 Serves is_meant happens number new =
     (s : Settings) (calls : List Call) (c : Client) → is_meant c → Stands s calls c.gate → Becomes (happens s calls c) number s new
 
--- A client that has just connected: nothing was asked of it, or by it.
+-- A client that has just connected: it asked for nothing, and nothing was asked of it.
 pub record IsNew (origin : Origin) (held : Held) (nick : List ℕ) (now : ℕ) (client : Client) : Type 0 where
   pub origin_is : client.origin ≡ origin
   pub gate_is : client.gate ≡ held

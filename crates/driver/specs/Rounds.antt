@@ -1,4 +1,4 @@
--- What becomes of the retirements of all nodes.
+-- How the retirements of all nodes change.
 use Rattle.std.specs.Prelude.{◌≡◌, ℕ, zero, suc, ◌+◌, ◌-◌, if◌then◌else◌, List, [], Option, Some, None, slice_get, slice_set}
 use Rattle.node_notes.specs.declared.note.Note.TheVariants.{Ask}
 use Rattle.driver.specs.declared.node_monitor.NodeMonitor.{NodeMonitor}
@@ -10,25 +10,26 @@ use Rattle.driver.specs.Retiring.{asked_at, dead_below, fresh, gone_body, is_due
 use Rattle.driver.specs.Leading.{IsLeader}
 use Rattle.driver.specs.Telling.{Ordered, ordered}
 
--- what is ordered where a retirement is asked for at a monitor's node
+-- what is ordered when a retirement is asked for at a monitor's node
 abbrev pub retirement_told : Retirement → NodeMonitor → List Order
 retirement_told retirement monitor = told monitor.id (Some (Ask (gone_body retirement.node retirement.floor)))
 
--- a run of this monitor's node began, with this boot: the retirement of its earlier ones stands at its place, and was asked for there
+-- a run of this monitor's node began, with this boot: the retirement of its earlier ones is at its place, and was asked
+-- for there
 abbrev pub begun_all : Ordered → List (Option Retirement) → ℕ → ℕ → NodeMonitor → List (Option Retirement)
 begun_all orders all now boot monitor = slice_set all (monitor.id - 1) (Some (asked_at orders (fresh monitor.id boot) now monitor))
 
--- the retirements behind the start of a run with this boot at a monitor's node
+-- the retirements after the start of a run with this boot at a monitor's node
 abbrev pub retirement_begun : Ordered → ℕ → ℕ → Option NodeMonitor → List (Option Retirement) → List (Option Retirement)
 retirement_begun orders now boot None all = all
 retirement_begun orders now boot (Some monitor) all = begun_all orders all now boot monitor
 
--- where runs of a node are over, they are retired, if that says more than the retirement before
+-- runs of a node that are over are retired, if that says more than the retirement before
 abbrev pub retired_by : Option ℕ → ℕ → Option Retirement → Option Retirement
 retired_by None node place = place
 retired_by (Some floor) node place = if is_news place floor then Some (fresh node floor) else place
 
--- the retirement at a node's place now: of the runs of it that are over, where that says more than what stood there
+-- the retirement at a node's place now: of its runs that are over, if that says more than the one there
 abbrev pub retired : Settings → ℕ → NodeMonitor → Option Retirement → Option Retirement
 retired settings now monitor place = retired_by (dead_below monitor settings.timeout_ms now) monitor.id place
 
@@ -37,12 +38,12 @@ abbrev pub retirement_due : Settings → ℕ → Option Retirement → Option Re
 retirement_due settings now None = None
 retirement_due settings now (Some retirement) = if is_due retirement settings.timeout_ms now then Some retirement else None
 
--- what becomes of a place of which this retirement is asked for at a monitor's node, if any is
+-- a place after this retirement, if there is one, is asked for at a monitor's node
 abbrev pub place_asked : Ordered → Option Retirement → ℕ → NodeMonitor → Option Retirement → Option Retirement
 place_asked orders None now monitor place = place
 place_asked orders (Some retirement) now monitor place = Some (asked_at orders retirement now monitor)
 
--- what is ordered of the monitor
+-- what is ordered for the monitor
 abbrev pub ask_orders : Option Retirement → NodeMonitor → List Order
 ask_orders None monitor = []
 ask_orders (Some retirement) monitor = retirement_told retirement monitor
@@ -56,7 +57,8 @@ pub record Round : Type 0 where
 abbrev pub round : List (Option Retirement) → Ordered → Round
 round retirements orders = record { retirements = retirements; orders = orders }
 
--- A node's turn: where runs of it are over, they are retired; and a retirement that is due is asked for at the node that leads.
+-- A node's turn: runs of it that are over are retired; and a retirement that is due is asked for at the node that
+-- leads.
 pub record Spreads (settings : Settings) (now leader node : ℕ) (monitors : List NodeMonitor) (old new : Round) : Type 0 where
   pub own : NodeMonitor
   pub is_own : slice_get monitors (node - 1) ≡ Some own
@@ -69,19 +71,19 @@ pub record Spreads (settings : Settings) (now leader node : ℕ) (monitors : Lis
       let due = retirement_due settings now (retired settings now own (retirement_at old.retirements node)) in
       new.orders ≡ ordered old.orders (ask_orders due via)
 
--- Nodes have their turns in order, so many from this one on.
+-- A number of nodes have their turns in order, from this one on.
 unfoldable pub SpreadsAll : ℕ → Settings → ℕ → ℕ → ℕ → List NodeMonitor → Round → Round → Type 0
 SpreadsAll zero settings now leader node monitors old new = new ≡ old
 SpreadsAll (suc count) settings now leader node monitors old new =
     (behind : Round)
     × Spreads settings now leader node monitors old behind × SpreadsAll count settings now leader (node + 1) monitors behind new
 
--- where no node leads nothing changes
+-- if no node leads nothing changes
 abbrev pub SpreadsBy : Option ℕ → Settings → ℕ → List NodeMonitor → Round → Round → Type 0
 SpreadsBy None settings now monitors old new = new ≡ old
 SpreadsBy (Some leader) settings now monitors old new = SpreadsAll 7 settings now leader 1 monitors old new
 
--- What time brings to retirements: each of the seven nodes has its turn, where one leads in the greatest term.
+-- What happens to retirements as time passes: each of the seven nodes has its turn, if one leads in the greatest term.
 pub record GoesRound (settings : Settings) (now : ℕ) (monitors : List NodeMonitor) (old new : Round) : Type 0 where
   pub leader : Option ℕ
   pub is_leader : IsLeader monitors leader

@@ -1,4 +1,4 @@
--- How the bouncer stands, in the words by which a client is told that asks.
+-- The state of the bouncer, in the words that a client gets that asks for it.
 use Rattle.std.specs.Prelude.{ℕ, ◌+◌, ◌-◌, ◌/◌, ◌%◌, Bool, true, false, not, codes, decimal, if◌then◌else◌, is_some, List, [], ◌∷◌, ◌++◌, length, take, Option, Some, None, slice_get}
 use Rattle.wire_bytes.specs.declared.origin.Origin.{Origin}
 use Rattle.driver.specs.declared.driver.Driver.{Driver}
@@ -13,19 +13,19 @@ use Rattle.driver.specs.Missing.{missing}
 use Rattle.driver.specs.Outgoing.{Waiting}
 use Rattle.driver.specs.Writing.{are_due}
 
--- how a node stands that leads or not, hangs or not, and is up or not
+-- the state of a node that leads or not, hangs or not, and is up or not
 abbrev pub state_words : Bool → Bool → Bool → List ℕ
 state_words true hangs up = codes " leads."
 state_words false true up = codes " does not answer."
 state_words false false true = codes " is up."
 state_words false false false = codes " is down."
 
--- how a node stands, behind its number
+-- the state of a node, after its number
 abbrev pub node_text : Option ℕ → NodeMonitor → List ℕ
 node_text leader monitor =
     32 ∷ (48 + monitor.id) ∷ state_words (is_that leader monitor.id) monitor.presence.is_hanging (is_some (boot_up monitor.status))
 
--- the same of these nodes
+-- for these nodes
 unfoldable pub node_texts : Option ℕ → List NodeMonitor → List ℕ
 node_texts leader [] = []
 node_texts leader (monitor ∷ more) = node_text leader monitor ++ node_texts leader more
@@ -33,14 +33,14 @@ node_texts leader (monitor ∷ more) = node_text leader monitor ++ node_texts le
 abbrev pub nodes_text : Option ℕ → List NodeMonitor → List ℕ
 nodes_text leader monitors = codes "The nodes:" ++ node_texts leader monitors
 
--- for how many milliseconds a session stands
+-- for how many milliseconds a session has been open
 abbrev pub stands_for : Stage → ℕ → ℕ
 stands_for (Idle since wait) now = 0
 stands_for (Closing since wait) now = 0
 stands_for (Connecting node) now = 0
 stands_for (Open session) now = now - session.since.since
 
--- milliseconds in hours and minutes
+-- milliseconds as hours and minutes
 abbrev pub time_text : ℕ → List ℕ
 time_text ms = decimal (ms / 3600000) ++ codes " h " ++ decimal (ms / 60000 % 60) ++ codes " min."
 
@@ -52,7 +52,7 @@ server_text_by None ms = codes "The server: connected for " ++ time_text ms
 abbrev pub server_text : Link → ℕ → List ℕ
 server_text link now = server_text_by (missing link.stage link.ended now) (stands_for link.stage now)
 
--- lines that are said may wait in the log besides, and may be being dropped there
+-- said lines may also wait in the log, and may be being dropped there
 abbrev pub more_text : Bool → Bool → List ℕ
 more_text more true = codes " What waits in the log is being dropped."
 more_text true false = codes " More lines wait in the log."
@@ -74,7 +74,7 @@ abbrev pub log_text : Option ℕ → List ℕ
 log_text None = codes "No node leads: nothing is agreed."
 log_text (Some entries) = codes "The log: " ++ decimal entries ++ codes " of 1000000 entries."
 
--- how all stands, where this node leads, or none
+-- the whole state, if this node leads, or none
 abbrev pub standing_texts : Option ℕ → ℕ → Driver → List (List ℕ)
 standing_texts leader now driver =
     nodes_text leader (take driver.settings.size driver.monitors) ∷ server_text driver.link now

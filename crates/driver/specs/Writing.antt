@@ -21,12 +21,13 @@ use Rattle.driver.specs.Outgoing.{Waiting, has_said, is_said, next_piece, piece_
 use Rattle.driver.specs.Pacing.{free_after, may_go}
 use Rattle.driver.specs.Telling.{Ordered, one_more, ordered}
 
--- a node hands out a line: in its session it waits to go out, unless it is said and a drop goes on
+-- a node hands out a line: it waits to go out in the node's session, unless it is a said line and a drop goes on
 abbrev pub handed : Option ℕ → ℕ → Parts → Link → Link
 handed dropping node line link =
     record link { waiting = if is_session_of link.stage node then with_handed dropping line link.waiting else link.waiting }
 
--- A line that a node hands out waits to go out in its session; where a drop goes on, and it is said, it is dropped and counted.
+-- A line that a node hands out waits to go out in its session; if a drop goes on, and it is a said line, it is dropped
+-- and counted.
 abbrev pub Hands : ℕ → Parts → Driver → Driver → Type 0
 Hands node line old new =
     new ≡ record old {
@@ -34,14 +35,16 @@ Hands node line old new =
       dropping = if is_session_of old.link.stage node then dropping_handed old.dropping line else old.dropping;
     }
 
--- a channel waits to be joined again, by the key by which it was joined last, or else by its key of these; the server is to answer that
+-- a channel waits to be joined again, by the key by which it was last joined, or else by its key in this list; the
+-- server has yet to answer that
 abbrev pub joined : List KeyOf → List ℕ → Link → Link
 joined keys channel link = record link {
   waiting = with_join channel (key_for link.keys.known channel keys) link.waiting;
   absent = asked channel link.absent;
 }
 
--- a connection behind an effect of a node: where that joins a channel again, in a session of the node, the channel waits to be joined
+-- a connection after an effect of a node: if that joins a channel again, in a session of the node, the channel waits to
+-- be joined
 abbrev pub link_passed : List KeyOf → Class Parts → ℕ → Link → Link
 link_passed keys (Rejoin session line) node link = if is_session_of link.stage node then joined keys (parameter 0 line) link else link
 link_passed keys (To origin) node link = link
@@ -52,11 +55,11 @@ link_passed keys Nowhere node link = link
 abbrev pub may_write : Driver → ℕ → Bool
 may_write driver now = may_go driver.pace.burst driver.pace.line_ms driver.pace.free_at now
 
--- a line may be claimed: none that is said waits, and it could go out at once, or would be dropped
+-- a line may be claimed: no said line waits, and it could go out at once, or would be dropped
 abbrev pub may_claim : Driver → ℕ → Bool
 may_claim driver now = not (has_said driver.link.waiting) && (is_some driver.dropping || may_write driver now)
 
--- the pace behind a line that goes
+-- the pace after a line goes
 abbrev pub gone_at : ℕ → Pace → Pace
 gone_at now pace = record pace { free_at = free_after pace.burst pace.line_ms pace.free_at now }
 
@@ -64,23 +67,23 @@ gone_at now pace = record pace { free_at = free_after pace.burst pace.line_ms pa
 abbrev pub are_due : Option NodeMonitor → Bool
 are_due monitor = not (is_some (line_to_claim (status_in monitor)))
 
--- how many lines that are said went since the server was last heard, behind one that is, or another
+-- how many said lines went since the server was last heard, after a piece goes
 abbrev pub unheard_behind : Piece → ℕ → ℕ
 unheard_behind piece unheard = if is_said piece then one_more unheard else unheard
 
--- the keys behind what goes to the server: a line that was handed out may ask for a channel by one
+-- the keys after a piece goes to the server: a line that was handed out may join a channel by one
 abbrev pub keys_behind : Piece → Keys → Keys
 keys_behind (Opens line) keys = keys
 keys_behind (Joins line) keys = keys
 keys_behind (Says line) keys = tried_by line keys
 
--- this goes to the server
+-- a piece goes to the server
 pub record IsSent (piece : Piece) (before after : Ordered) : Type 0 where
   pub bytes : Vec ℕ
   pub are : bytes.items ≡ piece_bytes piece
   pub orders : after ≡ ordered before (Send bytes ∷ [])
 
--- This goes to the server, which waits no more.
+-- A piece goes to the server, and no longer waits.
 pub record Goes (now : ℕ) (piece : Piece) (old new : Driver) : Type 0 where
   pub sent : IsSent piece old.orders new.orders
   pub rest : new ≡ record old {
@@ -90,7 +93,7 @@ pub record Goes (now : ℕ) (piece : Piece) (old new : Driver) : Type 0 where
     link = record old.link { keys = keys_behind piece old.link.keys };
   }
 
--- This goes out; what waits behind it waits on.
+-- A piece goes out; what waits after it waits on.
 pub record GoesOut (now : ℕ) (due : Bool) (piece : Piece) (old new : Driver) : Type 0 where
   pub sent : IsSent piece old.orders new.orders
   pub rest : new ≡ record old {
@@ -113,11 +116,11 @@ piece_at may due waiting = if may then next_piece due waiting else None
 abbrev pub piece_of : ℕ → ℕ → Driver → Option Piece
 piece_of now node driver = piece_at (may_write driver now) (are_due (slice_get driver.monitors (node - 1))) driver.link.waiting
 
--- What goes next goes out, where the pace allows it.
+-- What goes next goes out, if the pace allows it.
 abbrev pub WritesLine : ℕ → ℕ → Driver → Driver → Type 0
 WritesLine now node old new = GoesOutIf now (are_due (slice_get old.monitors (node - 1))) (piece_of now node old) old new
 
--- so many lines go out in turn, as far as there are so many and the pace allows it
+-- at most this many lines go out in turn, if there are so many and the pace allows it
 unfoldable pub WriteLines : ℕ → ℕ → ℕ → Driver → Driver → Type 0
 WriteLines zero now node old new = new ≡ old
 WriteLines (suc count) now node old new = (behind : Driver) × WritesLine now node old behind × WriteLines count now node behind new

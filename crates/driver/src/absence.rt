@@ -7,12 +7,12 @@ ghost use Rattle.driver.specs.Outages.{words_of};
 pub enum Absence {
     /// It is down.
     Down,
-    /// It has answered nothing for too long.
+    /// It has not answered for too long.
     Hanging,
 }
 
 impl Absence {
-    /// What the node's clients are told, behind its name, to the end of the line.
+    /// What the node's clients are sent, after its name, up to the end of the line.
     pub fn words(self) -> &'static [u8]
         ensures { result.now ≡ words_of self }
     {

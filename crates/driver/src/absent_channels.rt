@@ -1,4 +1,4 @@
-//! Channels that are not joined though they are to be, and why.
+//! Channels that should be joined but are not, and why.
 ghost use Rattle.std.specs.Prelude.{◌≡◌, IfOk, OnOk, option_map};
 ghost use Rattle.driver.specs.Absent.{absent_text, asked, barred, cleared, has_number, is_waited_for, none_absent};
 ghost use Rattle.driver.specs.Absent.{settled, text_numbered, with_channel, with_room};
@@ -7,12 +7,12 @@ use irc_line::is_same_name;
 use std::alloc::{AllocError, Global};
 use std::marker::Model;
 
-/// The most channels that are kept. Where one more comes the oldest goes.
+/// The most channels that are kept. When one more comes, the oldest is dropped.
 // a setup names at most 100 channels, and people may join more
 const MOST_CHANNELS: usize = 256;
 
 /// The most bytes of a reason that are kept.
-// with a nick and a channel of 64 bytes each it fits into a line
+// with a nick and a channel of 64 bytes each it fits in a line
 pub const MOST_REASON: usize = 300;
 
 /// Why a channel is not joined.
@@ -20,7 +20,7 @@ pub const MOST_REASON: usize = 300;
 /// A clause sees its number and its text.
 #[derive(Drop)]
 pub struct Reason {
-    /// Its place among all reasons that there were.
+    /// Its number among all reasons so far.
     number: u64,
     text: Vec<u8>,
 }
@@ -33,13 +33,13 @@ impl Model for Reason {
     ghost view = { λ r. record { number = r.number; text = r.text.items } };
 }
 
-/// A channel that is not joined though it is to be.
+/// A channel that should be joined but is not.
 ///
 /// A clause sees its name, and why, if that is known.
 #[derive(Drop)]
 pub struct AbsentChannel {
     channel: Vec<u8>,
-    /// None while the server has not answered.
+    /// None until the server has answered.
     why: Option<Reason>,
 }
 
@@ -52,7 +52,7 @@ impl Model for AbsentChannel {
 }
 
 impl AbsentChannel {
-    /// What people are told of it, where it is known why.
+    /// What people are shown about it, once the reason is known.
     pub fn text(&self, alloc: Global) -> Result<Option<Vec<u8>>, AllocError>
         ensures { IfOk result (λ text. option_map (λ text. text.items) text
             ≡ absent_text self.now) }
@@ -77,9 +77,9 @@ impl AbsentChannel {
     }
 }
 
-/// Channels that are not joined though they are to be, the newest last.
+/// Channels that should be joined but are not, the newest last.
 ///
-/// A clause sees them as a list, and how many reasons there were.
+/// A clause sees them as a list, and how many reasons there have been.
 #[derive(Drop)]
 pub struct AbsentChannels {
     alloc: Global,
@@ -96,7 +96,7 @@ impl Model for AbsentChannels {
 }
 
 impl AbsentChannels {
-    /// There is none.
+    /// No channels.
     pub fn new(alloc: Global) -> AbsentChannels
         ensures { result ≡ none_absent }
     {
@@ -114,14 +114,14 @@ impl AbsentChannels {
         self.all.as_slice()
     }
 
-    /// A channel is asked to be joined.
+    /// A JOIN of a channel was sent.
     pub fn ask(&mut self, channel: &[u8]) -> Result<(), AllocError>
         ensures { OnOk result (self.new ≡ asked channel.now self.old) }
     {
         self.put(channel, None)
     }
 
-    /// A channel is not joined, for this reason. The reason's number.
+    /// A channel is not joined, for this reason. Returns the reason's number.
     pub fn bar(&mut self, channel: &[u8], text: Vec<u8>) -> Result<u64, AllocError>
         ensures barred { OnOk result (self.new ≡ barred channel.now text.items self.old) }
         ensures number { IfOk result (λ number. number ≡ self.new.count) }
@@ -132,7 +132,7 @@ impl AbsentChannels {
         Ok(number)
     }
 
-    /// A channel is joined, or is not to be.
+    /// A channel is joined, or is not wanted any more.
     pub fn settle(&mut self, channel: &[u8])
         ensures { self.new ≡ settled channel.now self.old }
     {
@@ -140,14 +140,14 @@ impl AbsentChannels {
             .retain(|missed| !is_same_name(channel, missed.channel.as_slice()));
     }
 
-    /// Nothing is known: a session begins.
+    /// A session begins: nothing is known.
     pub fn clear(&mut self)
         ensures { self.new ≡ cleared self.old }
     {
         self.all = Vec::new(self.alloc);
     }
 
-    /// Whether the server is to answer whether a channel is joined.
+    /// Whether the server has yet to answer a JOIN of this channel.
     pub fn is_waited_for(&self, channel: &[u8]) -> bool
         ensures { result ≡ is_waited_for channel.now self.now }
     {
@@ -156,7 +156,7 @@ impl AbsentChannels {
         })
     }
 
-    /// A channel is the newest of them.
+    /// Adds a channel as the newest.
     fn put(&mut self, channel: &[u8], why: Option<Reason>) -> Result<(), AllocError>
         ensures { OnOk result (self.new ≡ record self.old
             { channels = with_channel channel.now why self.old.channels }) }
@@ -168,7 +168,7 @@ impl AbsentChannels {
         Ok(())
     }
 
-    /// Where as many are kept as may be, the oldest goes.
+    /// Drops the oldest if the list is full.
     fn make_room(&mut self)
         ensures { self.new ≡ record self.old { channels = with_room self.old.channels } }
     {
@@ -177,7 +177,7 @@ impl AbsentChannels {
         }
     }
 
-    /// What people are told of the channel whose reason has this number, if there is one.
+    /// What people are shown about the channel whose reason has this number, if there is one.
     pub fn text_numbered(&self, number: u64) -> Result<Option<Vec<u8>>, AllocError>
         ensures { IfOk result (λ text. option_map (λ text. text.items) text
             ≡ text_numbered number self.now.channels) }
@@ -186,7 +186,7 @@ impl AbsentChannels {
     }
 }
 
-/// The same among these.
+/// The text with this number in a list.
 fn text_numbered(
     alloc: Global,
     number: u64,

@@ -2,14 +2,14 @@
 ghost use Rattle.std.specs.Prelude.{◌≡◌, if◌then◌else◌};
 ghost use Rattle.driver.specs.Pacing.{doubled};
 
-/// How long to wait after a try that failed, in milliseconds: twice as long as before, up to a limit.
+/// How long to wait after a failed try, in milliseconds: twice as long as before, up to a limit.
 #[derive(Clone, Copy, Debug, Drop, PartialEq, Eq)]
 pub struct Backoff {
-    /// After the first try that failed.
+    /// After the first failed try.
     pub first: u32,
     /// At most.
     pub most: u32,
-    /// After the next one.
+    /// After the next failed try.
     pub next: u32,
 }
 
@@ -27,7 +27,7 @@ impl Backoff {
         }
     }
 
-    /// A try failed. How long to wait before the next one.
+    /// A try failed. Returns how long to wait before the next one.
     pub fn fail(&mut self) -> u32
         ensures wait { result ≡ self.old.next }
         ensures first { self.new.first ≡ self.old.first }
@@ -39,7 +39,7 @@ impl Backoff {
         wait
     }
 
-    /// A try is over. How long to wait before the next one: where it failed, it is twice as long after that one.
+    /// A try is over. Returns how long to wait before the next one; after a failure the wait after that doubles.
     pub fn end(&mut self, has_failed: bool) -> u32
         ensures wait { result ≡ self.old.next }
         ensures rest { self.new ≡ record self.old {

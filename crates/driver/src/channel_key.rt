@@ -1,7 +1,7 @@
 //! The key of a channel.
 use std::marker::Model;
 
-/// The key by which a channel is joined. In neither is a space, a comma or the end of a line.
+/// The key by which a channel is joined. Neither has a space, a comma or a line end.
 ///
 /// A clause sees both texts.
 #[derive(Drop)]

@@ -1,4 +1,4 @@
-//! What a line from the server says of a channel, to who has this nick.
+//! What a line from the server says about a channel, for the user with this nick.
 ghost use Rattle.std.specs.Prelude.{◌≡◌, ◌++◌, IfOk, OnOk};
 ghost use Rattle.buffer_machine.specs.Messages.{is_by, is_own, is_own_kick};
 ghost use Rattle.driver.specs.Absent.{cut_reason, in_brackets, is_refusal, is_settled, kick_reason};
@@ -25,7 +25,7 @@ pub fn is_own(line: &Line, word: &[u8], nick: &[u8]) -> bool
     has_command(line, word) && is_by(line, nick) && is_channel_name(line.parameter(0))
 }
 
-/// Whether a line puts this nick out of a channel (RFC 2812, 3.2.8).
+/// Whether a line kicks this nick from a channel (RFC 2812, 3.2.8).
 pub fn is_own_kick(line: &Line, nick: &[u8]) -> bool
     ensures { result ≡ is_own_kick nick.now line.now }
 {
@@ -34,7 +34,7 @@ pub fn is_own_kick(line: &Line, nick: &[u8]) -> bool
         && is_channel_name(line.parameter(0))
 }
 
-/// Whether a channel is joined by who has this nick, or left by it.
+/// Whether a line says that this nick joined a channel or left it.
 pub fn is_settled(line: &Line, nick: &[u8]) -> bool
     ensures { result ≡ is_settled nick.now line.now }
 {
@@ -51,14 +51,14 @@ pub fn is_refusal(line: &Line) -> bool
     }
 }
 
-/// Whether a line says that a channel is not joined since its key was wrong (RFC 2812, 5.2: ERR_BADCHANNELKEY).
+/// Whether a line says that a channel was not joined because its key was wrong (RFC 2812, 5.2: ERR_BADCHANNELKEY).
 pub fn is_bad_key(line: &Line) -> bool
     ensures { result ≡ is_bad_key line.now }
 {
     is_same(line.command(), b"475")
 }
 
-/// Who kicked, and why, as far as it fits.
+/// Who kicked, and why, cut to what fits.
 pub fn kick_reason(alloc: Global, line: &Line) -> Result<Vec<u8>, AllocError>
     ensures { IfOk result (λ text. text.items ≡ cut_reason (kick_reason line.now)) }
 {
@@ -69,7 +69,7 @@ pub fn kick_reason(alloc: Global, line: &Line) -> Result<Vec<u8>, AllocError>
     Ok(text)
 }
 
-/// Appends a text in brackets, where there is one.
+/// Appends a text in brackets, if it is not empty.
 fn push_in_brackets(out: &mut Vec<u8>, text: &[u8]) -> Result<(), AllocError>
     ensures { OnOk result (out.new.items ≡ out.old.items ++ in_brackets text.now) }
 {
@@ -82,7 +82,7 @@ fn push_in_brackets(out: &mut Vec<u8>, text: &[u8]) -> Result<(), AllocError>
     Ok(())
 }
 
-/// Why the server refuses something, as far as it fits.
+/// Why the server refuses something, cut to what fits.
 pub fn refusal_reason(alloc: Global, line: &Line) -> Result<Vec<u8>, AllocError>
     ensures { IfOk result (λ text. text.items ≡ cut_reason (last_parameter line.now)) }
 {

@@ -36,11 +36,11 @@ use raft_log::NodeId;
 use std::alloc::{AllocError, Global};
 use wire_bytes::Origin;
 
-/// The most requests that may wait at a client's gate while more is read of the client: a piece of 512
-/// bytes has at most some 42 requests, and the gate takes 100.
+/// The most requests that may wait at a client's gate while more is read from the client: a piece of 512 bytes has at
+/// most some 42 requests, and the gate takes 100.
 const MOST_WAITING: usize = 48;
 
-/// By which note of its node, and when, the oldest of the requests that wait was told.
+/// The note in which the oldest waiting request was sent to the node, and when.
 #[derive(Clone, Copy)]
 struct Asked {
     note: u64,
@@ -53,30 +53,29 @@ pub struct Client {
     alloc: Global,
     origin: Origin,
     gate: ClientGate,
-    /// The nick that its gate greets it by.
+    /// The nick that its gate greeted it by.
     nick: Name,
-    /// The name by which it attaches, if it registered by one.
+    /// The name by which it attaches, if it gave one.
     name: Option<Name>,
     /// When it connected.
     since: Timer,
-    /// When it was last heard of, or, once it registered, not read.
+    /// When it was last heard from or, once it registered, was last not read.
     heard: Timer,
-    /// Of what waits; where nothing waits it says nothing.
+    /// About what waits; without meaning while nothing waits.
     asked: Asked,
-    /// A request was left out, or a turn of its node was refused, and nothing was done for it since: what
-    /// waits may be lost.
+    /// A request was left out, or its node refused a turn, and nothing was done for it since: what waits may be lost.
     is_held_up: bool,
     is_attached: bool,
     channels: Channels,
-    /// The channels that it had open when it asked to part from them, and did not ask to join since.
+    /// The channels it had open when it asked to part from them, and has not asked to join since.
     parting: Channels,
-    /// It was asked for a word since it was last heard of.
+    /// It was sent a PING since it was last heard from.
     is_pinged: bool,
-    /// Since when it leaves, where it does: its last request, Leave, was told to its node.
+    /// Since when it has been leaving, if it is: its last request, Leave, went to its node.
     leaving: Option<Timer>,
-    /// Its connection is gone, or is to be closed.
+    /// Its connection is gone, or is being closed.
     is_gone: bool,
-    /// What it is still told where its password was wrong.
+    /// What it is still to be sent, if its password was wrong.
     refused: Option<Refusal>,
 }
 
@@ -108,14 +107,14 @@ impl Client {
         }
     }
 
-    /// Which client it is, of which run of which node.
+    /// Its origin: which client it is, of which run of which node.
     pub fn origin(&self) -> Origin
         ensures { result ≡ self.now.origin }
     {
         self.origin
     }
 
-    /// The name by which it attaches, if it registered by one.
+    /// The name by which it attaches, if it gave one.
     pub fn name(&self) -> &Option<Name>
         ensures { result.now ≡ self.now.name }
     {
@@ -136,14 +135,14 @@ impl Client {
         self.is_attached
     }
 
-    /// Whether its connection is gone, or is to be closed.
+    /// Whether its connection is gone, or is being closed.
     pub fn is_gone(&self) -> bool
         ensures { result ≡ self.now.is_gone }
     {
         self.is_gone
     }
 
-    /// Whether as many of its requests wait as may while more is read of it.
+    /// Whether so many of its requests wait that no more is read from it.
     pub fn is_full(&self) -> bool
         ensures { (s : Settings) (calls : List Call) → Stands s calls self.now.gate →
             result ≡ nat_le reading_limit (length (gate s calls).waiting) }
@@ -151,8 +150,8 @@ impl Client {
         self.gate.waiting() >= MOST_WAITING
     }
 
-    /// Its bytes came, however they are cut. Where its password is wrong it is answered at this moment, and not now. What
-    /// it said to the bouncer that asked for nothing of the buffers.
+    /// Bytes came from it, in pieces of any size. If its password is wrong it is answered at this moment, not now.
+    /// Returns what it said to the bouncer that asks nothing of the buffers.
     pub fn receive(
         &mut self,
         now: &Now,
@@ -182,9 +181,9 @@ impl Client {
         }
     }
 
-    /// What its gate answered goes on: the bytes to the client, the requests to its node. Where the gate
-    /// closes, and the client asked to leave by that, it stays until that is done; else it is closed. What the client said
-    /// to the bouncer by it that asked for nothing.
+    /// What its gate answered goes on: the bytes to the client, the requests to its node. If the gate closes and the
+    /// client thereby asked to leave, it stays until that is done; else it is closed. Returns what the client said to
+    /// the bouncer that asks nothing of the buffers.
     fn pass(
         &mut self,
         now: &Now,
@@ -252,7 +251,7 @@ impl Client {
         Ok(())
     }
 
-    /// Whether nothing is left to do for it: its connection is gone, and all that it asked for is done.
+    /// Whether nothing is left to do for it: its connection is gone, and all its requests are done.
     pub fn is_over(&self) -> bool
         ensures { (s : Settings) (calls : List Call) → Stands s calls self.now.gate →
             result ≡ (self.now.is_gone && is_idle (gate s calls).waiting) }

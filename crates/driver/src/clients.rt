@@ -35,7 +35,7 @@ pub struct Clients {
 }
 
 impl Clients {
-    /// There is none.
+    /// No clients.
     pub fn new(alloc: Global) -> Clients
         ensures { (number : ℕ) → client_at result number ≡ None }
     {
@@ -58,8 +58,8 @@ impl Clients {
         }
     }
 
-    /// A client's bytes came. Where its password is wrong it is answered at this moment. What it said to the bouncer that
-    /// asked for nothing of the buffers.
+    /// Bytes came from a client. If its password is wrong it is answered at this moment. Returns what it said to the
+    /// bouncer that asks nothing of the buffers.
     pub fn receive(
         &mut self,
         now: &Now,
@@ -83,8 +83,8 @@ impl Clients {
         Ok(words)
     }
 
-    /// Something came of a request of the client of this origin, under this nick. A client of another origin that has the
-    /// same number is as it was.
+    /// An effect came for the client of this origin, under this nick. A client of another origin with the same number
+    /// is unchanged.
     pub fn hear(
         &mut self,
         now: &Now,
@@ -143,7 +143,7 @@ impl Clients {
         Ok(())
     }
 
-    /// The client of this number is forgotten where nothing is left to do for it.
+    /// Forgets the client of this number if nothing is left to do for it.
     pub(crate) fn forget_if_over(&mut self, number: u64)
         ensures others { AreOthersSame number self.old self.new }
         ensures nobody { client_at self.old number ≡ None → self.new ≡ self.old }
@@ -167,7 +167,7 @@ impl Clients {
         }
     }
 
-    /// Whether as many requests of the client of this number wait as may, if there is one.
+    /// Whether the client of this number has too many waiting requests, if there is one.
     pub fn is_full(&self, number: u64) -> bool
         ensures { IsFullIn result (client_at self.now number) }
     {
@@ -187,7 +187,7 @@ impl Clients {
         }
     }
 
-    /// Whether nothing more is read of the client of this number, if there is one.
+    /// Whether nothing more is read from the client of this number, if there is one.
     pub fn is_leaving(&self, number: u64) -> bool
         ensures { result ≡ is_leaving_in (client_at self.now number) }
     {
@@ -197,7 +197,7 @@ impl Clients {
         }
     }
 
-    /// Of which origin the client of this number is, if its password was wrong and it is still to be told so.
+    /// The origin of the client of this number, if its password was wrong and it has not been answered yet.
     pub fn refused(&self, number: u64) -> Option<Origin>
         ensures { result ≡ refused_in (client_at self.now number) }
     {
@@ -209,7 +209,7 @@ impl Clients {
         }
     }
 
-    /// Time passed: each client ticks, and is forgotten where nothing is left to do for it.
+    /// Time passed: each client ticks, and is forgotten if nothing is left to do for it.
     pub fn tick(
         &mut self,
         now: &Now,
@@ -264,7 +264,7 @@ impl Clients {
     }
 }
 
-/// Whether these are the same.
+/// Whether two origins are the same.
 fn is_same(a: Origin, b: Origin) -> bool
     ensures { result ≡ same_origin a b }
 {

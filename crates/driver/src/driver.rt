@@ -1,4 +1,4 @@
-//! The driver: what happened is told to it, and it gives orders.
+//! The driver: its calls say what happened, and it gives orders.
 ghost use Rattle.std.specs.Prelude.{◌≡◌, true, IfOk, IfSome, None, OnErr, OnOk, is_some};
 ghost use Rattle.driver.specs.Arriving.{Arrives, ArrivesIf, IsNewDriver, boot_at, monitors_behind};
 ghost use Rattle.driver.specs.Arriving.{last_number, new_monitors, next_number, turned_away_at};
@@ -49,35 +49,35 @@ use wire_bytes::{LAST_NUMBER, Number, Origin};
 pub struct Driver {
     alloc: Global,
     settings: Settings,
-    /// Node 1's first, also of nodes that there are not: of these nothing is heard.
+    /// Node 1's first. There is one for each possible node; nothing is heard from nodes that do not exist.
     monitors: [NodeMonitor; MOST_NODES],
     retirements: Retirements,
     clients: Clients,
     /// The number of the last client.
     numbered: u64,
     link: Link,
-    /// Of wrong passwords.
+    /// Counts wrong passwords.
     guard: Guard,
     /// The nick that the server gave, if it gave one.
     given: Option<Name>,
-    /// How full the log is, of which people were told last.
+    /// How full the log is, by the last notice to people.
     level: Level,
     pace: Pace,
-    /// How many lines that are said went to the server since it was last heard.
+    /// How many said lines went to the server since it was last heard.
     unheard: u64,
-    /// How many lines were dropped so far, where what waits to go to the server is dropped until no line is left to claim.
+    /// How many lines were dropped so far, while a drop goes on: it ends once no line is left to claim.
     dropping: Option<u64>,
-    /// Fewer nodes than a majority serve clients, as people were told last.
+    /// Whether fewer nodes than a majority serve clients, by the last notice to people.
     is_short: bool,
-    /// Since when a majority of the nodes goes on, as far as is known.
+    /// Since when a majority of the nodes has been working, as far as is known.
     going_on: Timer,
-    /// When it last heard of a node, or was told that time passed.
+    /// When it last heard from a node, or last ticked.
     ran: Timer,
     orders: Orders,
 }
 
 impl Driver {
-    /// A driver of nodes that were just started; it knows each by what its worker tells.
+    /// A driver of nodes that were just started; what it knows of each comes from the reports of its worker.
     pub fn new(alloc: Global, settings: Settings, now: &Now) -> Driver
         ensures { IsNewDriver settings now.now.ms result }
     {
@@ -104,8 +104,7 @@ impl Driver {
         }
     }
 
-    /// What is to be done, in this order. None of it is given again. What goes to one client by writes that
-    /// follow each other is one write.
+    /// What is to be done, in this order. Nothing is returned twice. Consecutive writes to one client are one write.
     pub fn orders(&mut self) -> Vec<Order>
         ensures given { deeds result.items ≡ deeds self.old.orders.items }
         ensures left { self.new ≡ record self.old { orders = emptied self.old.orders } }
@@ -114,9 +113,8 @@ impl Driver {
         self.orders.take()
     }
 
-    /// A client has connected to this node. Its number; none where the node is not up or hangs, or the numbers
-    /// are spent: its connection is then to be closed. An operator is told of the first that was turned
-    /// away since the node was up.
+    /// A client has connected to this node. Returns its number, or none if the node is not up or hangs, or no numbers
+    /// are left: the caller then closes the connection. The first client turned away since the node was up is logged.
     pub fn connect(&mut self, now: &Now, node: NodeId) -> Result<Option<u64>, AllocError>
         ensures number { IfOk result (λ number.
             number ≡ next_number self.old.monitors node self.old.numbered) }
@@ -235,23 +233,23 @@ impl Driver {
         self.clients.is_attached(number)
     }
 
-    /// Whether nothing more is taken of the client of this number: it leaves, its password was wrong, or its
-    /// connection is to be closed. What it is shown until then is still written.
+    /// Whether nothing more is taken from the client of this number: it is leaving, its password was wrong, or its
+    /// connection is being closed. What it is shown until then is still written.
     pub fn is_leaving(&self, number: u64) -> bool
         ensures { result ≡ is_leaving_in (client_at self.now.clients number) }
     {
         self.clients.is_leaving(number)
     }
 
-    /// The bouncer is about to end: each client is to leave, as by a QUIT of its own. Its connection is closed once
-    /// its Leave is done, or five seconds later; that of one that did not register is closed at once.
+    /// The bouncer is about to end: each client is to leave, as if it had sent QUIT. Its connection is closed once its
+    /// Leave is done, or five seconds later; one that did not register is closed at once.
     pub fn end(&mut self, now: &Now) -> Result<(), AllocError>
         ensures { OnOk result (Dismisses now.now.ms now.now.at self.old self.new) }
     {
         self.clients.dismiss_all(now, &mut self.orders)
     }
 
-    /// How many lines that are said went to the server since it was last heard: as a session ends, so many may not have
+    /// How many said lines went to the server since it was last heard: when a session ends, that many may not have
     /// arrived.
     pub fn unheard(&self) -> u64
         ensures { result ≡ self.now.unheard }
@@ -259,8 +257,8 @@ impl Driver {
         self.unheard
     }
 
-    /// A line was handed out by a node, for its session, in which it waits to go out. Where a drop goes on, and the
-    /// line is said, it is dropped.
+    /// A node handed out a line; the line waits to go out in the node's session. If it is a said line and a drop goes
+    /// on, it is dropped.
     pub fn hand(&mut self, node: NodeId, line: &Line) -> Result<(), AllocError>
         ensures { OnOk result (Hands node line.now self.old self.new) }
     {
@@ -275,7 +273,7 @@ impl Driver {
     }
 }
 
-/// A monitor for each node that there may be.
+/// A monitor for each possible node.
 fn monitors_of(settings: &Settings, now: &Now) -> [NodeMonitor; MOST_NODES]
     ensures { result ≡ new_monitors settings.now now.now.ms }
 {

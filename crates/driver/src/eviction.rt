@@ -7,16 +7,16 @@ use std::fmt;
 /// Why the buffers close a client.
 #[derive(Clone, Copy, Debug, PartialEq, Eq)]
 pub enum Eviction {
-    /// It attaches by a new name, and as many are in use as may be.
+    /// It attaches by a new name, while as many names are in use as may be.
     NamesSpent,
-    /// It was attached, and gives way to another one.
+    /// It was attached, and gives way to another client.
     GaveWay,
-    /// The buffers don't take clients of this run of its node any more.
+    /// The buffers no longer take clients of this run of its node.
     RunOver,
 }
 
 impl Eviction {
-    /// The same in words, which say what to do.
+    /// The reason in words, which say what to do.
     pub fn words(self) -> &'static str
         ensures { result.now ≡ words_of self }
     {

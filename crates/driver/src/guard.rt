@@ -1,18 +1,18 @@
-//! Wrong passwords: when each is answered, and which of them an operator is told of.
+//! Wrong passwords: when each is answered, and which of them are logged.
 ghost use Rattle.std.specs.Prelude.{◌≡◌};
 ghost use Rattle.driver.specs.Guarding.{due_at, is_first, new_guard, next_turn, noted, soon, untold, watched};
 
 use crate::order::Now;
 use crate::timer::Timer;
 
-/// How many wrong passwords of a minute are answered without a turn.
+/// How many wrong passwords a minute are answered without a turn.
 // a person mistypes a few times, and each device of theirs may send an old one
 const FIRST: u64 = 10;
 
 /// How long a wrong password waits for its answer, in milliseconds.
 const ANSWERED_BEHIND: u64 = 2_000;
 
-/// How far the turns of those past the first ones are apart, in milliseconds.
+/// How far apart the turns are of those beyond the first ones, in milliseconds.
 const TURNS_APART: u64 = 1_000;
 
 /// How far ahead a turn may be, in milliseconds: a client has no more time to register.
@@ -28,12 +28,12 @@ pub struct Guard {
     since: Timer,
     /// How many came since.
     wrong: u64,
-    /// When the last one that was given a turn is answered.
+    /// When the last one that got a turn is answered.
     turn: u64,
 }
 
 impl Guard {
-    /// None came.
+    /// No wrong password yet.
     pub fn new(now: &Now) -> Guard
         ensures { result ≡ new_guard now.now.ms }
     {
@@ -62,7 +62,7 @@ impl Guard {
         self.wrong < FIRST
     }
 
-    /// The turn behind the last one.
+    /// The turn after the last one.
     fn next_turn(&self, now: &Now) -> u64
         ensures { result ≡ next_turn self.now now.now.ms }
     {
@@ -85,7 +85,7 @@ impl Guard {
         self.wrong = self.wrong.saturating_add(1);
     }
 
-    /// Where a minute is over they are counted anew. How many came in it that nobody was told of.
+    /// Counts anew once a minute is over. Returns how many came in it that were not logged.
     pub fn watch(&mut self, now: &Now) -> u64
         ensures untold { result ≡ untold now.now.ms self.old }
         ensures watched { self.new ≡ watched now.now.ms self.old }
@@ -99,7 +99,7 @@ impl Guard {
     }
 }
 
-/// When a wrong password that comes now is answered that needs no turn.
+/// When a wrong password that comes now and needs no turn is answered.
 fn soon(now: &Now) -> u64
     ensures { result ≡ soon now.now.ms }
 {

@@ -6,14 +6,15 @@ use std::alloc::{AllocError, Global};
 use std::marker::Model;
 
 /// The most bytes of a line that joins channels, without its end.
-// a line of IRC has 512 bytes with its end, which is two
+// a line of IRC has 512 bytes with its end, which takes two
 const MOST_BYTES: usize = 510;
 
-/// How long a line is that joins channels, but for these and their keys with a comma before each.
-// the word takes four; a space stands for the first comma of the channels, and for that of the keys
+/// The length of a line that joins channels, without the channels and keys and a comma before each.
+// the word takes four; a space takes the place of the first comma of the channels, and of the first
+// comma of the keys
 const WORD: usize = 4;
 
-/// A line that joins channels. Those that have a key come first, since the server takes keys in the order of channels.
+/// A line that joins channels. Those with a key come first, since the server takes keys in the order of the channels.
 ///
 /// A clause sees the channels that have a key, their keys, and the other channels, with a comma before each.
 #[derive(Drop)]
@@ -33,7 +34,7 @@ impl Model for JoinLine {
 }
 
 impl JoinLine {
-    /// One channel is joined, by this key, or by none where it has no bytes.
+    /// A line that joins one channel, by this key, or without a key if it is empty.
     pub fn of(alloc: Global, channel: &[u8], key: &[u8]) -> Result<JoinLine, AllocError>
         ensures { IfOk result (λ line. line ≡ with_channel channel.now key.now no_channels) }
     {
@@ -46,7 +47,7 @@ impl JoinLine {
         Ok(line)
     }
 
-    /// Whether one more channel fits in, with its key.
+    /// Whether one more channel fits, with its key.
     pub fn fits(&self, channel: &[u8], key: &[u8]) -> bool
         ensures { result ≡ fits_in self.now channel.now key.now }
     {
@@ -56,7 +57,7 @@ impl JoinLine {
         line.saturating_add(more) < MOST_BYTES - WORD
     }
 
-    /// One more channel is joined, by this key, or by none where it has no bytes.
+    /// Adds a channel, by this key, or without a key if it is empty.
     pub fn add(&mut self, channel: &[u8], key: &[u8]) -> Result<(), AllocError>
         ensures { OnOk result (self.new ≡ with_channel channel.now key.now self.old) }
     {
@@ -81,7 +82,7 @@ impl JoinLine {
     }
 }
 
-/// How many bytes a key takes, with a comma.
+/// How many bytes a key takes, with its comma.
 fn key_size(key: &[u8]) -> usize
     ensures { result ≡ key_size key.now }
 {
@@ -99,7 +100,7 @@ fn push_name(out: &mut Vec<u8>, name: &[u8]) -> Result<(), AllocError>
     out.extend_from_slice(name)
 }
 
-/// Appends keys behind a space, where there are some.
+/// Appends keys after a space, if there are any.
 fn push_keys(out: &mut Vec<u8>, keys: &[u8]) -> Result<(), AllocError>
     ensures { OnOk result (out.new.items ≡ out.old.items ++ key_text keys.now) }
 {
@@ -110,7 +111,7 @@ fn push_keys(out: &mut Vec<u8>, keys: &[u8]) -> Result<(), AllocError>
     out.extend_from_slice(behind_comma(keys))
 }
 
-/// What stands behind the first comma of a list.
+/// The part of a list after its first comma.
 fn behind_comma(names: &[u8]) -> &[u8]
     ensures { result.now ≡ drop 1 names.now }
 {

@@ -1,4 +1,4 @@
-//! The keys by which channels were joined, and by which that was tried.
+//! The keys by which channels were joined, or by which a JOIN was tried.
 ghost use Rattle.std.specs.Prelude.{◌≡◌, OnOk, filter, map};
 ghost use Rattle.std.specs.List.{list_all};
 ghost use Rattle.client_gate.specs.Words.{pieces};
@@ -13,18 +13,18 @@ use irc_line::{Line, is_channel_name, is_same_name};
 use std::alloc::{AllocError, Global};
 use std::marker::Model;
 
-/// The most keys that are kept. Where one more comes the oldest goes.
+/// The most keys that are kept. When one more comes, the oldest is dropped.
 // a setup names at most 100 channels, and people may join more
 const MOST_KEYS: usize = 256;
 
-/// The keys by which channels were joined, and those by which a JOIN went to the server, the newest last.
+/// The keys by which channels were joined, and those in JOINs that went to the server, the newest last.
 ///
 /// A clause sees them as lists.
 #[derive(Drop)]
 pub struct KeyRing {
     alloc: Global,
     known: Vec<ChannelKey>,
-    /// Those by which a JOIN went to the server.
+    /// Those in JOINs that went to the server.
     tried: Vec<ChannelKey>,
 }
 
@@ -37,7 +37,7 @@ impl Model for KeyRing {
 }
 
 impl KeyRing {
-    /// No channel was joined by a key.
+    /// No keys.
     pub fn new(alloc: Global) -> KeyRing
         ensures { result ≡ no_keys }
     {
@@ -48,7 +48,7 @@ impl KeyRing {
         }
     }
 
-    /// A line goes to the server. Where it asks for channels by keys, these are tried.
+    /// A line goes to the server. If it joins channels by keys, these are tried.
     pub fn hear(&mut self, line: &Line) -> Result<(), AllocError>
         ensures { OnOk result (self.new ≡ tried_by line.now self.old) }
     {
@@ -59,8 +59,8 @@ impl KeyRing {
         learn_all(self.alloc, &mut self.tried, channels, keys)
     }
 
-    /// A line came from the server, to who has this nick. Where a channel is joined the key by which that was tried is
-    /// known from now on; one that was wrong is tried no more.
+    /// A line came from the server, for the user with this nick. When a channel is joined, the key that was tried
+    /// becomes known; a wrong key is no longer tried.
     pub fn hear_answer(&mut self, nick: &[u8], line: &Line) -> Result<(), AllocError>
         ensures { OnOk result (self.new ≡ keys_heard nick.now line.now self.old) }
     {
@@ -73,7 +73,7 @@ impl KeyRing {
         Ok(())
     }
 
-    /// A channel was joined: the key by which that was tried, if by one, is known from now on.
+    /// A channel was joined: the key that was tried, if there was one, becomes known.
     fn keep(&mut self, channel: &[u8]) -> Result<(), AllocError>
         ensures { OnOk result (self.new ≡ joined_by channel.now self.old) }
     {
@@ -84,7 +84,7 @@ impl KeyRing {
         learn(self.alloc, &mut self.known, channel, key)
     }
 
-    /// The key by which a channel was joined; no bytes where there is none.
+    /// The key by which a channel was joined; empty if there is none.
     pub fn key_of(&self, channel: &[u8]) -> &[u8]
         ensures { result.now ≡ key_in channel.now self.now.known }
     {
@@ -92,7 +92,7 @@ impl KeyRing {
     }
 }
 
-/// Each channel of a list with commas goes with the key at its place in another, as far as there is one.
+/// Each channel of a list with commas goes with the key at its place in another list, if there is one.
 fn learn_all(
     alloc: Global,
     known: &mut Vec<ChannelKey>,
@@ -108,7 +108,7 @@ fn learn_all(
     learn_each(alloc, known, channels.as_slice(), keys.as_slice())
 }
 
-/// Each of these channels goes with the key at its place, as far as there is one.
+/// Each of these channels goes with the key at its place, if there is one.
 fn learn_each(
     alloc: Global,
     known: &mut Vec<ChannelKey>,
@@ -130,7 +130,7 @@ fn learn_each(
     learn_each(alloc, known, channels, keys)
 }
 
-/// The key of a channel is this: what was known of it counts no more, nor does the oldest where too many are known.
+/// Sets the key of a channel: the one known before is forgotten, and so is the oldest if too many are known.
 fn learn(
     alloc: Global,
     keys: &mut Vec<ChannelKey>,
@@ -147,7 +147,7 @@ fn learn(
     Ok(())
 }
 
-/// Where as many are kept as may be, the oldest goes.
+/// Drops the oldest if the list is full.
 fn make_room(keys: &mut Vec<ChannelKey>)
     ensures { keys.new.items ≡ with_room keys.old.items }
 {
@@ -156,14 +156,14 @@ fn make_room(keys: &mut Vec<ChannelKey>)
     }
 }
 
-/// Nothing is known of this channel any more.
+/// Forgets this channel.
 fn forget(keys: &mut Vec<ChannelKey>, channel: &[u8])
     ensures { keys.new.items ≡ without channel.now keys.old.items }
 {
     keys.retain(|known| !is_same_name(channel, known.channel.as_slice()));
 }
 
-/// The key of a channel among these; no bytes where it has none.
+/// The key of a channel in a list; empty if it has none.
 pub fn key_in<'a>(channel: &[u8], keys: &'a [ChannelKey]) -> &'a [u8]
     ensures { result.now ≡ key_in channel.now keys.now }
 {
@@ -183,7 +183,7 @@ fn is_pair(channel: &[u8], key: &[u8]) -> bool
     is_channel_name(channel) && is_key(key)
 }
 
-/// Whether a key may stand among others in a JOIN: it is not empty, has no space and no comma, and begins with no colon.
+/// Whether a key can be one of several in a JOIN: it is not empty, has no space and no comma, and begins with no colon.
 fn is_key(key: &[u8]) -> bool
     ensures { result ≡ is_key key.now }
 {

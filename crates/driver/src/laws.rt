@@ -1,4 +1,4 @@
-//! What holds of every driver, as contracts of functions that do nothing.
+//! Laws of every driver, as contracts of functions that do nothing.
 ghost use Rattle.driver.specs.Answering.{AnswersGoToWhoAsks};
 ghost use Rattle.driver.specs.Claiming.{OneClaimWaits};
 ghost use Rattle.driver.specs.Counting.{NotesAreCounted};
@@ -17,124 +17,122 @@ ghost use Rattle.driver.specs.Reaching.{EffectsReach};
 ghost use Rattle.driver.specs.Rewording.{RewordsEndings};
 ghost use Rattle.driver.specs.Sessions.{OpensOnce};
 
-/// Over whatever happens to a client, as long as its node told of nothing lost that it was told of it, and
-/// nothing holds it up, each request that its gate numbers is told to its node once, and in order.
+/// Whatever happens to a client: as long as its node reports no note of it as lost, and nothing holds it up, each
+/// request that its gate numbers goes to its node once, and in order.
 pub fn requests_are_told_once()
     ensures { AsksOnce }
 {}
 
-/// Of what a client asks only a JOIN may be told otherwise, as the line that joins the channel; all is told in order, each
-/// request under its number. Where a client parts from a channel that it has open, and joins it right behind that, the JOIN
-/// goes as a line.
+/// Only a JOIN among a client's requests may be reworded, as the line that joins the channel. All go in order, each
+/// under its number. If a client parts from a channel that it has open, and joins it right after that, the JOIN goes as
+/// a line.
 pub fn a_channel_is_cycled()
     ensures joins { OnlyJoinsAreReworded }
     ensures cycles { CyclesGoAsLines }
 {}
 
-/// Whatever happens to a client, what it asks goes to its own node alone.
+/// Whatever happens to a client, its requests go to its own node alone.
 pub fn requests_go_to_their_own_node()
     ensures { AsksOwn }
 {}
 
-/// Whatever happens to a client that leaves, as long as its connection stands: all that it is shown is written to
-/// it, in order, and nothing else, and it is not closed.
+/// Whatever happens to a client that is leaving, as long as it is connected: all that it is shown is written to it, in
+/// order, and nothing else, and it is not closed.
 pub fn who_leaves_is_shown_all()
     ensures { LeaversAreShownAll }
 {}
 
-/// Behind each report of a worker, and whenever time passed, the connection to the server is of the node
-/// that leads in the greatest term, as far as the driver knows, or there is none.
+/// After each report of a worker, and after each tick, the connection to the server belongs to the leader of the
+/// greatest term, as far as the driver knows, or there is none.
 pub fn the_server_is_of_the_greatest_leader()
     ensures heard { IsOfLeaderHeard }
     ensures ticked { IsOfLeaderTicked }
 {}
 
-/// Over every list of calls of a driver at most one claim of a line waits at a node: where the node is told
-/// to claim a line, and its next claim is of the same line, it told in between that all of its log is applied.
+/// Over every list of calls of a driver at most one claim of a line waits at a node: if the node is asked to claim a
+/// line, and its next claim is of the same line, it reported in between that all of its log is applied.
 pub fn one_claim_waits()
     ensures { OneClaimWaits }
 {}
 
-/// Over every list of calls of a driver each effect of a report reaches the client of its origin, and no
-/// other, also none that has the same number.
+/// Over every list of calls of a driver each effect of a report reaches the client of its origin, and no other, even
+/// one with the same number.
 pub fn effects_reach_their_clients()
     ensures { EffectsReach }
 {}
 
-/// A line of the server by which it ends the session is told by a NOTICE of `*status` in its place, and any other line
-/// is shown as it came. Neither changes where an effect goes, nor what a gate makes of it.
+/// A line by which the server ends the session becomes a NOTICE of `*status` in its place, and any other line is shown
+/// as it came. Neither changes where an effect goes, nor what a gate makes of it.
 pub fn endings_are_reworded()
     ensures { RewordsEndings }
 {}
 
-/// Whatever a client says to the bouncer that asks for nothing of the buffers: what it is answered is written to that
-/// client and to no other, and nothing else comes of it, but that by DROP WAITING what is said and waits to go to the
-/// server is dropped.
+/// Whatever a client says to the bouncer that asks nothing of the buffers: the answer is written to that client and to
+/// no other, and nothing else follows, except that DROP WAITING drops said lines that wait to go to the server.
 pub fn answers_go_to_who_asks()
     ensures { AnswersGoToWhoAsks }
 {}
 
-/// Over every list of calls of a driver, however its orders are taken, how many notes a node was told is how
-/// many its orders told it.
+/// Over every list of calls of a driver, however its orders are taken, the count of a node's notes is the number of
+/// notes in its orders.
 pub fn notes_are_counted()
     ensures { NotesAreCounted }
 {}
 
-/// Over every list of calls of a driver: from where an operator was told that a node is down, until it is told
-/// that the node is up, the node is told nothing but to start again.
+/// Over every list of calls of a driver: from the log line that a node is down until the log line that it is up, the
+/// node gets no note but to start again.
 pub fn a_node_that_is_down_is_only_restarted()
     ensures { DownIsOnlyRestarted }
 {}
 
-/// As long as no session of a process gave a nick, the nick in force is the one by which a client is shown a
-/// JOIN, from before it is shown that on.
+/// As long as no session of a process has given a nick, the nick in force is the one by which a client is shown a JOIN,
+/// from just before it is shown.
 pub fn joins_show_the_nick_in_force()
     ensures { JoinsShowTheNick }
 {}
 
-/// In any stretch of time no more lines go than may go at once, and one for each time that a line takes in
-/// it.
+/// In any stretch of time no more lines go out than the burst, plus one for each time that a line takes.
 pub fn lines_are_paced()
     ensures { IsPaced }
 {}
 
 /// In a session, whatever nodes hand out, channels are joined and lines go: the lines that each session sends first go
-/// out in order, each once, before anything else that waits; the lines that are said go out in the order in which they
-/// were handed out, each at most once, and all do where nobody says DROP WAITING; a question who is in a channel goes
-/// only where nothing that is said waits, and of those that wait no two ask of one channel.
+/// out in order, each once, before anything else that waits. Said lines go out in the order in which they were handed
+/// out, each at most once, and all do unless somebody says DROP WAITING. A question for who is in a channel goes only
+/// while no said line waits, and no two waiting questions are for the same channel.
 pub fn what_is_said_goes_first()
     ensures first { OpeningGoesFirst }
     ensures order { SaidGoInOrder }
     ensures questions { QuestionsWait }
 {}
 
-/// In a session, from where the server was heard on: each line that is said and goes out is counted once, and nothing else
+/// In a session, from the moment the server was heard: each said line that goes out is counted once, and nothing else
 /// is.
 pub fn what_is_said_is_counted()
     ensures { SaidAreCounted }
 {}
 
-/// In a session, from where DROP WAITING is said until that drop ends no line that is said goes to the server, whatever
-/// nodes hand out, and all of them are counted; what is handed out once it ended goes out as ever.
+/// In a session, from DROP WAITING until that drop ends, no said line goes to the server, whatever nodes hand out, and
+/// all of them are counted; what is handed out after that goes out as before.
 pub fn what_waits_is_dropped()
     ensures { DropsWhatWaits }
 {}
 
-/// Where the server gives a session again, the lines that each session sends first don't wait once more.
+/// If the server gives a session again, the lines that each session sends first don't wait once more.
 pub fn sessions_open_once()
     ensures { OpensOnce }
 {}
 
-/// Whatever lines go to the server: the key by which a channel was joined last is known, and at most 256 are. A JOIN of
-/// several channels and their keys fits into a line.
+/// Whatever lines go to the server: the key by which a channel was last joined is known, and at most 256 are. A JOIN of
+/// several channels and their keys fits in a line.
 pub fn keys_are_learnt()
     ensures learnt { KeysAreLearnt }
     ensures fit { JoinsFit }
 {}
 
-/// Over every list of calls of a driver one connection to the server is asked for at a time. Where the node of one leads
-/// no more, the server is told by a QUIT, and once; nothing is said behind it, and the next connection is asked for only
-/// where the server closed this one, or had a second to.
+/// Over every list of calls of a driver one connection to the server is asked for at a time. If its node no longer
+/// leads, the server gets one QUIT; nothing is sent after it, and the next connection is asked for only once the server
+/// closed this one, or had a second to.
 pub fn sessions_end_first()
     ensures { SessionsEndFirst }
 {}

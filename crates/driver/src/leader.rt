@@ -13,7 +13,7 @@ struct Leader {
     term: Number,
 }
 
-/// The node that leads in the greatest term, the first where more than one does; none where none leads.
+/// The leader of the greatest term, the first if there are several; none if no node leads.
 pub fn leader_of(monitors: &[NodeMonitor; MOST_NODES]) -> Option<NodeId>
     ensures { IsLeader monitors.now result }
 {
@@ -26,7 +26,7 @@ pub fn leader_of(monitors: &[NodeMonitor; MOST_NODES]) -> Option<NodeId>
     Some(best.node)
 }
 
-/// The best so far, or a node that leads in a greater term.
+/// The better of the best so far and a node that leads in a greater term.
 fn better(best: Option<Leader>, node: NodeId, term: Option<Number>) -> Option<Leader>
     ensures { result ≡ better best node term }
 {

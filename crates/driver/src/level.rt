@@ -2,14 +2,14 @@
 ghost use Rattle.std.specs.Prelude.{◌≡◌};
 ghost use Rattle.driver.specs.Filling.{is_full, level_of, rank, words_of};
 
-/// Of the entries that a log takes the last 1,000 are kept for blank entries, for sessions that end, and for
-/// clients that attach: so a bouncer whose log is full still starts, joins, and plays all that it kept.
+/// The last 1,000 of a log's entries are reserved for blank entries, for sessions that end, and for clients that
+/// attach: so a bouncer with a full log still starts, joins, and plays all that it kept.
 pub const FULL: u64 = 999_000;
 
-/// An operator who is told now has days left at the rate of a busy bouncer.
+/// An operator who learns it now has days left at the rate of a busy bouncer.
 const NEARLY_FULL: u64 = 950_000;
 
-/// An operator who is told now has weeks left.
+/// An operator who learns it now has weeks left.
 const FILLING: u64 = 800_000;
 
 /// How full a log is, of the 1,000,000 entries that it takes.
@@ -25,7 +25,7 @@ pub enum Level {
 }
 
 impl Level {
-    /// How full a log of so many entries is.
+    /// The level of a log with this many entries.
     pub fn of(last: u64) -> Level
         ensures { result ≡ level_of last }
     {
@@ -62,7 +62,7 @@ impl Level {
         }
     }
 
-    /// What clients are told of it.
+    /// What clients are sent about it.
     pub fn words(self) -> &'static [u8]
         ensures { result.now ≡ words_of self }
     {

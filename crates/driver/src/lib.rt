@@ -1,7 +1,7 @@
-//! What drives the nodes of a bouncer, their clients and the server, apart from sockets and clocks:
-//! it is told what happened, and gives orders. Stands under bouncer_run, and under node_cases.
-//! The server's connection is of the leader in the greatest term; as long as nothing may be lost and nothing holds a
-//! client up, each of its requests is told to its node once, and in order. Both are proved where there is memory.
+//! Drives the nodes of a bouncer, their clients and the server, without sockets and clocks: its calls say what
+//! happened, and it gives orders. bouncer_run and node_cases use it. The server's connection belongs to the leader of
+//! the greatest term; as long as nothing may be lost and nothing holds a client up, each of its requests goes to its
+//! node once, and in order. Both are proved as long as memory lasts.
 #![tactic(auto)]
 
 mod absence;

@@ -1,27 +1,27 @@
 //! The limits of the driver, by number, as contracts of functions that do nothing.
 ghost use Rattle.driver.specs.Limits.{LimitsOfClients, LimitsOfGuesses, LimitsOfNodes, LimitsOfTheLog, LimitsOfTheServer};
 
-/// What a client is given: time to register, to say something and to leave, and room for its requests.
+/// What a client gets: time to register, to say something and to leave, and room for its requests.
 pub fn limits_of_clients()
     ensures { LimitsOfClients }
 {}
 
-/// What whoever guesses the password is given.
+/// What someone who guesses the password gets.
 pub fn limits_of_guesses()
     ensures { LimitsOfGuesses }
 {}
 
-/// What a node is given: time to answer and to start again, and room for what it is told.
+/// What a node gets: time to answer and to start again, and room for its notes.
 pub fn limits_of_nodes()
     ensures { LimitsOfNodes }
 {}
 
-/// What the server is given: time to answer and to close, waits before it is tried again, and room for what goes to it.
+/// What the server gets: time to answer and to close, waits before the next try, and room for what goes to it.
 pub fn limits_of_the_server()
     ensures { LimitsOfTheServer }
 {}
 
-/// When people are told how full the log is.
+/// The levels of the log at which people get a notice.
 pub fn limits_of_the_log()
     ensures { LimitsOfTheLog }
 {}

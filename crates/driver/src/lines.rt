@@ -1,4 +1,4 @@
-//! Lines that clients are told by the driver itself.
+//! Lines that the driver itself sends to clients.
 ghost use Rattle.std.specs.Prelude.{◌≡◌, IfOk};
 ghost use Rattle.driver.specs.Kicks.{kick_line};
 ghost use Rattle.driver.specs.Nicks.{no_motd, renaming};
@@ -17,8 +17,8 @@ pub fn renaming(alloc: Global, was: &[u8], new: &[u8]) -> Result<Vec<u8>, AllocE
     Ok(line)
 }
 
-/// The line that tells a client of this nick that there is no message of the day. Many programs take it for the
-/// end of their welcome, and join and send nothing before it.
+/// The line that tells a client of this nick that there is no message of the day. Many programs treat it as the end of
+/// their welcome, and join and send nothing before it.
 pub fn no_motd(alloc: Global, nick: &[u8]) -> Result<Vec<u8>, AllocError>
     ensures { IfOk result (λ line. line.items ≡ no_motd nick.now) }
 {
@@ -29,7 +29,7 @@ pub fn no_motd(alloc: Global, nick: &[u8]) -> Result<Vec<u8>, AllocError>
     Ok(line)
 }
 
-/// The line that puts who has this nick out of a channel, since the server was gone.
+/// The line that kicks the user with this nick from a channel, because the server was gone.
 pub fn kick_line(alloc: Global, channel: &[u8], nick: &[u8]) -> Result<Vec<u8>, AllocError>
     ensures { IfOk result (λ line. line.items ≡ kick_line channel.now nick.now) }
 {

@@ -35,51 +35,51 @@ use std::alloc::{AllocError, Global};
 use uplink::{Passed, Uplink};
 
 /// The first and the longest wait before the server is tried again, in milliseconds.
-// A server that failed for a moment is soon tried again, and one that is gone is not pressed.
+// A server that failed for a moment is soon tried again, and one that is gone is not pestered.
 const FIRST_WAIT: u32 = 1000;
 
 const LONGEST_WAIT: u32 = 60_000;
 
-/// Where the connection stands.
+/// The state of the connection.
 #[derive(Drop)]
 enum Stage {
-    /// There is none; a next one may be tried after so many milliseconds from then.
+    /// There is none. The next one may be tried this many milliseconds after that moment.
     Idle(Timer, u32),
-    /// The server was told then that the session is over, and is to close the connection; a next one may be tried so
-    /// many milliseconds after that.
+    /// At that moment the server was told that the session is over, and is to close the connection. The next one may be
+    /// tried this many milliseconds later.
     Closing(Timer, u32),
-    /// One was asked for, for this node.
+    /// It was asked for, for this node.
     Connecting(NodeId),
-    /// It stands, for this node.
+    /// It is open, for this node.
     Open(Session),
 }
 
-/// A connection that stands.
+/// An open connection.
 #[derive(Drop)]
 struct Session {
     node: NodeId,
     uplink: Uplink,
     since: Timer,
     heard: Timer,
-    /// When the server was asked for a word, where it gave none since.
+    /// When the server was sent a PING, if it has said nothing since.
     asked: Option<Timer>,
-    /// The server gave it.
+    /// The server has given the session.
     is_opened: bool,
 }
 
-/// The connection to the server, which is of the node that leads.
+/// The connection to the server, which belongs to the node that leads.
 #[derive(Drop)]
 pub struct Link {
     alloc: Global,
     stage: Stage,
     backoff: Backoff,
-    /// Why the last connection ended, or was not made; none where there was none yet.
+    /// Why the last connection ended or was not made; none before the first.
     ended: Option<Ending>,
     /// What waits to go out in the session.
     waiting: Outgoing,
-    /// By which channels were joined in any session.
+    /// The keys by which channels were joined in any session.
     keys: KeyRing,
-    /// Channels that are not joined though they are to be.
+    /// Channels that should be joined but are not.
     absent: AbsentChannels,
 }
 
@@ -104,7 +104,7 @@ impl Link {
         }
     }
 
-    /// The node that it is of, if there is one.
+    /// The node that it belongs to, if there is one.
     pub fn node(&self) -> Option<NodeId>
         ensures { result ≡ node_of self.now.stage }
     {
@@ -115,7 +115,7 @@ impl Link {
         }
     }
 
-    /// This node leads: the server is connected to for it, where that may be tried.
+    /// This node leads: connects to the server for it, if that may be tried.
     pub fn connect(
         &mut self,
         now: &Now,
@@ -141,7 +141,7 @@ impl Link {
         Ok(())
     }
 
-    /// The connection stands: the session is asked for.
+    /// The connection is open: asks for the session.
     pub fn connected(
         &mut self,
         now: &Now,
@@ -159,7 +159,7 @@ impl Link {
         Ok(())
     }
 
-    /// Bytes came from the server, however they are cut. What they bring to the node, if anything.
+    /// Bytes came from the server, in pieces of any size. Returns what they bring to the node, if anything.
     pub fn receive(
         &mut self,
         now: &Now,
@@ -181,8 +181,8 @@ impl Link {
         }
     }
 
-    /// The server gave the session that was asked for: these lines wait in it before all else, but once. Its channels are
-    /// asked for anew.
+    /// The server gave the session that was asked for: these lines wait in it before all else, but only once. Its
+    /// channels are joined anew.
     pub fn open(&mut self, lines: &[Line]) -> Result<(), AllocError>
         ensures { OnOk result (self.new ≡ opened_with lines.now self.old) }
     {
@@ -207,7 +207,7 @@ impl Link {
         }
     }
 
-    /// Whether the connection stands, and its session is not over.
+    /// Whether the connection is open, and its session is not over.
     pub fn is_open(&self) -> bool
         ensures { result ≡ is_open self.now.stage }
     {
@@ -215,7 +215,7 @@ impl Link {
     }
 }
 
-/// A session of this node begins: the server is sent its first bytes.
+/// A session of this node begins: sends the server its first bytes.
 fn begin(
     alloc: Global,
     node: NodeId,
@@ -239,7 +239,7 @@ fn begin(
     })
 }
 
-/// Bytes came of a session.
+/// Bytes came in a session.
 fn receive_in(
     alloc: Global,
     session: &mut Session,
@@ -258,7 +258,7 @@ fn receive_in(
     Ok(notes)
 }
 
-/// What an uplink writes goes to the server, if it is something.
+/// Sends what an uplink writes to the server, if that is not empty.
 fn send_back(reply: Vec<u8>, orders: &mut Orders) -> Result<(), AllocError>
     ensures { OnOk result (orders.new ≡ ordered orders.old (send_some reply reply.items)) }
 {

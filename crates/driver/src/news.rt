@@ -1,4 +1,4 @@
-//! What an operator is told.
+//! What is logged for the operator.
 ghost use Rattle.std.specs.Prelude.{◌≡◌};
 ghost use Rattle.driver.specs.Links.{end_of, is_failure};
 ghost use Rattle.driver.specs.Missing.{words_of};
@@ -14,9 +14,9 @@ use wire_bytes::{Number, Origin};
 /// Why a connection to the server ended, or was not made.
 #[derive(Clone, Copy)]
 pub enum Ending {
-    /// Nobody takes connections at the server's address.
+    /// Nothing accepts connections at the server's address.
     Refused,
-    /// There is no way to the server's machine.
+    /// There is no route to the server's machine.
     Unreachable,
     /// The server closed it.
     ByServer,
@@ -24,12 +24,12 @@ pub enum Ending {
     Lost,
     /// The server was silent for too long.
     Silent,
-    /// Its node leads no more.
+    /// Its node no longer leads.
     LedNoMore,
 }
 
 impl Ending {
-    /// The same in words.
+    /// The reason in words.
     pub fn words(self) -> &'static str
         ensures { result.now ≡ words_of self }
     {
@@ -43,7 +43,7 @@ impl Ending {
         }
     }
 
-    /// Whether it counts as a failure, behind which the server is left alone for longer.
+    /// Whether it counts as a failure, after which the wait for the next try grows.
     pub fn is_failure(self) -> bool
         ensures { result ≡ is_failure self }
     {
@@ -61,7 +61,7 @@ impl fmt::Display for Ending {
     }
 }
 
-/// What an operator is told, a line each: never a password, nor the text of a message.
+/// What is logged for the operator, a line each: never a password, nor the text of a message.
 #[derive(Clone, Copy)]
 pub enum News {
     /// A client registered at its node.
@@ -70,7 +70,7 @@ pub enum News {
     Left(Origin),
     /// The buffers close a client, and why.
     Evicted(Origin, Eviction),
-    /// A channel is not joined in the session of this node, for the reason of this number.
+    /// A channel is not joined in this node's session, for the reason of this number.
     NotJoined(NodeId, u64),
     /// A node leads, in this term.
     Elected(NodeId, Number),
@@ -84,26 +84,26 @@ pub enum News {
     Down(NodeId, Cause),
     /// A node is up, in its run of this number.
     Up(NodeId, Number),
-    /// A node has answered nothing for too long, while others go on.
+    /// A node has not answered for too long, while others work.
     Hangs(NodeId),
     /// A node that hung answers again.
     Answers(NodeId),
-    /// Fewer nodes than a majority answer, so that nothing is agreed.
+    /// Fewer nodes than a majority answer, so nothing is agreed.
     TooFew,
     /// A majority answers again.
     Enough,
     /// A client connected to a node that is not up.
     TurnedAway(NodeId),
-    /// The log of the node that leads is as full as this.
+    /// The log of the leading node has reached this level.
     LogFills(NodeId, Level),
     /// A client came with a wrong password, or with none: one of the first of a minute.
     WrongPassword(Origin),
-    /// So many more clients came with a wrong password in a minute.
+    /// This many more clients sent a wrong password in a minute.
     WrongPasswords(u64),
 }
 
 impl News {
-    /// What an operator is told of a connection that stood: the end of its session, or that none was given.
+    /// What is logged when an open connection ends: the end of its session, or that none was given.
     pub fn of_end(was_given: bool, node: NodeId, why: Ending) -> News
         ensures { result ≡ end_of was_given node why }
     {
@@ -114,7 +114,7 @@ impl News {
         }
     }
 
-    /// The node that it is of, where it is of one.
+    /// The node that it is about, if it is about one.
     pub fn node(&self) -> Option<NodeId>
         ensures { result ≡ node_of self.now }
     {

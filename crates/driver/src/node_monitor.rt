@@ -28,22 +28,22 @@ use standing::{Claimed, Following, LastBeat, Outage, Presence, Visitors};
 use std::alloc::AllocError;
 use wire_bytes::{LAST_NUMBER, Number};
 
-/// The most nodes that there may be.
+/// The most nodes in a group.
 pub const MOST_NODES: usize = wire_bytes::MOST_NODES as usize;
 
 /// The longest wait before a node that is down is started again, in milliseconds.
-// A disk that is full is not pressed, and a node that can start again is up within a minute.
+// A full disk is not pestered, and a node that can start again is up within a minute.
 const LONGEST: u32 = 60_000;
 
 /// After how many timeouts without an answer a node counts as dead.
 const DEAD: u64 = 10;
 
-/// While so many notes of a node are not done, nothing more is read for it: else its beats would wait
-/// behind all that was read, and the other nodes would choose another leader. A leader saves as many
-/// by one save, which may take some milliseconds, where a disk is slow.
+/// While this many notes of a node are not done, nothing more is read for it: else its beats would wait after all that
+/// was read, and the other nodes would choose another leader. A leader saves as many in one save, which may take some
+/// milliseconds on a slow disk.
 const MOST_WAITING: u64 = BATCH_LIMIT as u64;
 
-/// What the driver knows of one node, and what the node is told by the clock.
+/// What the driver knows of one node, and which notes the clock sends it.
 #[derive(Drop)]
 pub struct NodeMonitor {
     id: NodeId,
@@ -53,11 +53,11 @@ pub struct NodeMonitor {
     following: Following,
     beat: LastBeat,
     claimed: Option<Claimed>,
-    /// Where it is down.
+    /// Set while it is down.
     down: Option<Outage>,
-    /// How long it waits the next time until it is started again.
+    /// How long the next wait is before it is started again.
     backoff: Backoff,
-    /// By which of its notes it was last told to start again though it was up.
+    /// The note that last restarted it while it was up.
     restart_note: u64,
     presence: Presence,
     visitors: Visitors,
@@ -114,7 +114,7 @@ impl NodeMonitor {
         self.progress
     }
 
-    /// Whether as many of its notes wait as may.
+    /// Whether so many of its notes wait that no more may.
     pub fn is_full(&self, orders: &Orders) -> bool
         ensures { result ≡ is_full (told_to orders.now self.now.id) self.now.progress }
     {
@@ -155,7 +155,7 @@ impl NodeMonitor {
         }
     }
 
-    /// A client connected though it is not up: an operator is told, once until it is up again.
+    /// A client connected though the node is not up: logged once until it is up again.
     pub fn turn_away(&mut self, orders: &mut Orders) -> Result<(), AllocError>
         ensures told { OnOk result (orders.new ≡ ordered orders.old (turned_away_news self.old)) }
         ensures monitor { OnOk result (self.new ≡ turned_away self.old) }
@@ -167,9 +167,9 @@ impl NodeMonitor {
         Ok(())
     }
 
-    /// The runs below this boot are to be retired: where the node is down, those up to the greatest boot
-    /// known of it; where it answered nothing for ten timeouts, or its clients were told that it hangs, those
-    /// up to the greatest boot seen in an origin, where one was.
+    /// The runs below this boot are to be retired: if the node is down, those up to the greatest boot known of it; if
+    /// it has not answered for ten timeouts, or its clients were told that it hangs, those up to the greatest boot seen
+    /// in an origin, if there was one.
     pub fn dead_below(&self, now: &Now, settings: &Settings) -> Option<Number>
         ensures { result ≡ dead_below self.now settings.now.timeout_ms now.now.ms }
     {
@@ -196,8 +196,8 @@ impl NodeMonitor {
         }
     }
 
-    /// The runs of the node below this one are gone for all nodes: where it is up in one of them it is told
-    /// to start again, so that it gets a run whose clients count. At most one such note waits.
+    /// The runs of the node below this one are gone for all nodes: if it is up in one of them it is restarted, so that
+    /// it gets a run whose clients count. At most one such note waits.
     pub fn restart_below(&mut self, floor: Number, orders: &mut Orders) -> Result<(), AllocError>
         ensures told { OnOk result (orders.new
             ≡ ordered orders.old (told self.old.id (restart_if self.old (Some floor)))) }
@@ -210,7 +210,7 @@ impl NodeMonitor {
         Ok(())
     }
 
-    /// Whether it is up in a run below this one, and was not told to start again just before.
+    /// Whether it is up in a run below this one, and was not just restarted.
     fn is_to_restart(&self, floor: Number) -> bool
         ensures { result ≡ is_to_restart self.now floor }
     {
@@ -220,7 +220,7 @@ impl NodeMonitor {
         boot.value() < floor.value() && self.restart_note <= self.progress.done
     }
 
-    /// How the node stood when it was last heard of.
+    /// The state of the node when it was last heard from.
     pub fn status(&self) -> Option<Status>
         ensures { result ≡ self.now.status }
     {
@@ -241,8 +241,7 @@ impl NodeMonitor {
         }
     }
 
-    /// So much of the time that passed does not count as silence: not of the node, and not of the leader
-    /// that it heard of.
+    /// This many milliseconds do not count as silence: not of the node, and not of the leader that it heard of.
     pub fn wait_longer(&mut self, ms: u64)
         ensures { self.new ≡ waited_longer ms self.old }
     {

@@ -6,10 +6,10 @@ use node_notes::{Note, Report};
 use raft_log::NodeId;
 use wire_bytes::Moment;
 
-/// What a node's worker is told.
+/// A note to a node's worker.
 pub type TowerNote = Note<TowerBody, WireLine>;
 
-/// What a node's worker tells.
+/// A report of a node's worker.
 pub type TowerReport = Report<TowerEffect>;
 
 /// A moment, by a clock of milliseconds that never goes back, and by the time of day.
@@ -22,18 +22,18 @@ pub struct Now {
 /// What the driver asks for, to be done in the order given.
 #[derive(Drop)]
 pub enum Order {
-    /// A node's worker is told this.
+    /// A note goes to a node's worker.
     Submit(NodeId, TowerNote),
     /// These bytes go to the client of this number.
     Write(u64, Vec<u8>),
-    /// The connection of the client of this number is closed, behind what was written.
+    /// Closes the connection of the client of this number, after what was written.
     Close(u64),
-    /// The server is connected to.
+    /// Connects to the server.
     Connect,
     /// These bytes go to the server.
     Send(Vec<u8>),
-    /// The connection to the server is closed, behind what was sent.
+    /// Closes the connection to the server, after what was sent.
     Disconnect,
-    /// An operator is told.
+    /// Logs this for the operator.
     Log(News),
 }

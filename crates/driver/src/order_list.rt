@@ -1,4 +1,4 @@
-//! Orders, of which those that write to one client, one behind the other, are one.
+//! Orders, with consecutive writes to one client merged into one.
 ghost use Rattle.std.specs.Prelude.{◌≡◌, ◌≤◌, ◌+◌, ◌++◌, ◌∷◌, [], true, IfSome, None, Some, OnErr, OnOk, map};
 ghost use Rattle.std.specs.Vec.{vec_capacity, vec_len};
 ghost use Rattle.driver.specs.Deeds.{Byte, are_merged, are_two, deeds, write_of, written_by, written_last};
@@ -8,7 +8,7 @@ use std::alloc::{AllocError, Global};
 use std::marker::Model;
 use std::mem::replace;
 
-/// What goes to the client of this number by one order.
+/// What one order writes to the client of this number.
 #[derive(Drop)]
 pub struct Writing {
     client: u64,
@@ -20,9 +20,9 @@ pub struct Writing {
 /// A clause sees them as a list.
 #[derive(Drop)]
 pub struct OrderList {
-    /// All, but the last where that is a write.
+    /// All except the last if that is a write.
     list: Vec<Order>,
-    /// The last, where that is a write: the list has room for it.
+    /// The last, if that is a write: the list has room for it.
     last: Option<Writing>,
 }
 
@@ -41,7 +41,7 @@ impl Model for OrderList {
 }
 
 impl OrderList {
-    /// There is none.
+    /// No orders.
     pub fn new(alloc: Global) -> OrderList
         ensures { result ≡ [] }
     {
@@ -51,20 +51,20 @@ impl OrderList {
         }
     }
 
-    /// One more, which writes to no client.
+    /// Adds an order that writes to no client.
     pub fn push(&mut self, order: Order) -> Result<(), AllocError>
         requires { written_by order ≡ None }
         ensures ok { OnOk result (self.new ≡ self.old ++ order ∷ []) }
         ensures err { OnErr result (self.new ≡ self.old) }
     {
-        // for the write that is held apart, and for this one
+        // for the write that is held apart, and for this order
         self.list.reserve(2)?;
         settle(&mut self.list, &mut self.last);
         self.list.push_reserved(order);
         Ok(())
     }
 
-    /// Bytes go to a client, behind what the last order writes to it, where that is a write to it.
+    /// Bytes go to a client, after those of the last order if that writes to the same client.
     pub fn write(&mut self, client: u64, bytes: Vec<u8>) -> Result<(), AllocError>
         ensures ok { OnOk result
             (deeds self.new ≡ deeds self.old ++ map (Byte client) bytes.items) }
@@ -95,7 +95,7 @@ impl OrderList {
         Ok(())
     }
 
-    /// All of them. None is left.
+    /// All of them, leaving none.
     pub fn take(&mut self, alloc: Global) -> Vec<Order>
         ensures given { result.items ≡ self.old }
         ensures left { self.new ≡ [] }
@@ -106,7 +106,7 @@ impl OrderList {
     }
 }
 
-/// The last order stands behind the others, where it is a write.
+/// The last order follows the others, if it is a write.
 fn settle(list: &mut Vec<Order>, last: &mut Option<Writing>)
     requires room { IfSome last.old (λ writing. vec_len list.old + 1 ≤ vec_capacity list.old) }
     ensures settled { list.new.items ≡ list.old.items ++ write_of last.old }

@@ -1,4 +1,4 @@
-//! What is ordered, and how many notes each node was told.
+//! What is ordered, and how many notes each node was sent.
 ghost use Rattle.std.specs.Prelude.{◌≡◌, ◌++◌, ◌∷◌, [], true, IfOk, None, OnOk};
 ghost use Rattle.std.specs.Global.{Vec};
 ghost use Rattle.driver.specs.declared.order.Order.TheVariants.{Close, Connect, Disconnect, Send, Submit, Log, Write};
@@ -16,19 +16,19 @@ use std::marker::Model;
 use std::mem::replace;
 use std::snapshot::Snapshot;
 
-/// What is ordered, and how many notes each node was told.
+/// What is ordered, and how many notes each node was sent.
 ///
-/// A clause sees the orders, each write by itself, and how many notes each node was told before them: what
-/// it was told in all are these and what the orders tell it.
+/// A clause sees the orders, each write by itself, and how many notes each node was sent before them: the total is
+/// these and the notes in the orders.
 #[derive(Drop)]
 pub struct Orders {
     alloc: Global,
     list: OrderList,
-    /// The same, each write by itself.
+    /// The orders, each write by itself.
     said: Snapshot<Said>,
-    /// How many notes each node was told before these orders; node 1's first.
+    /// How many notes each node was sent before these orders; node 1's first.
     before: [u64; MOST_NODES],
-    /// How many it was told in all.
+    /// How many it was sent in all.
     told: [u64; MOST_NODES],
 }
 
@@ -46,7 +46,7 @@ impl Model for Orders {
 }
 
 impl Orders {
-    /// Nothing is ordered, and no node was told a note.
+    /// Nothing is ordered, and no node was sent a note.
     #[tactic(auto, unfolding(crate::specs::Telling::counts))]
     pub fn new(alloc: Global) -> Orders
         ensures { result ≡ none_told }
@@ -60,7 +60,7 @@ impl Orders {
         }
     }
 
-    /// How many notes a node was told.
+    /// How many notes a node was sent.
     #[tactic(auto, unfolding(crate::specs::Telling::told_to))]
     pub fn told_to(&self, node: NodeId) -> u64
         ensures { result ≡ told_to self.now node }
@@ -68,14 +68,14 @@ impl Orders {
         self.told[node.value() as usize - 1]
     }
 
-    /// The number of the next note that a node is told.
+    /// The number of the next note to a node.
     pub fn next(&self, node: NodeId) -> u64
         ensures { result ≡ next_note self.now node }
     {
         self.told_to(node).saturating_add(1)
     }
 
-    /// A node is told this. The number of the note.
+    /// Sends a note to a node. Returns the note's number.
     pub fn submit(&mut self, node: NodeId, note: TowerNote) -> Result<u64, AllocError>
         ensures told { OnOk result (self.new ≡ ordered self.old (Submit node note ∷ [])) }
         ensures number { IfOk result (λ number. number ≡ next_note self.old node) }
@@ -99,7 +99,7 @@ impl Orders {
         Ok(())
     }
 
-    /// The connection of a client is closed.
+    /// Closes the connection of a client.
     #[tactic(auto, using(crate::proofs::Telling::counts_push))]
     pub fn close(&mut self, client: u64) -> Result<(), AllocError>
         ensures { OnOk result (self.new ≡ ordered self.old (Close client ∷ [])) }
@@ -107,7 +107,7 @@ impl Orders {
         self.add(Order::Close(client), self.told)
     }
 
-    /// The server is connected to.
+    /// Connects to the server.
     #[tactic(auto, using(crate::proofs::Telling::counts_push))]
     pub fn connect(&mut self) -> Result<(), AllocError>
         ensures { OnOk result (self.new ≡ ordered self.old (Connect ∷ [])) }
@@ -123,7 +123,7 @@ impl Orders {
         self.add(Order::Send(bytes), self.told)
     }
 
-    /// The connection to the server is closed.
+    /// Closes the connection to the server.
     #[tactic(auto, using(crate::proofs::Telling::counts_push))]
     pub fn disconnect(&mut self) -> Result<(), AllocError>
         ensures { OnOk result (self.new ≡ ordered self.old (Disconnect ∷ [])) }
@@ -131,7 +131,7 @@ impl Orders {
         self.add(Order::Disconnect, self.told)
     }
 
-    /// An operator is told.
+    /// Logs something for the operator.
     #[tactic(auto, using(crate::proofs::Telling::counts_push))]
     pub fn log(&mut self, news: News) -> Result<(), AllocError>
         ensures { OnOk result (self.new ≡ ordered self.old (Log news ∷ [])) }
@@ -139,7 +139,7 @@ impl Orders {
         self.add(Order::Log(news), self.told)
     }
 
-    /// This is ordered, too, which writes to no client, and by which the nodes were told so many notes.
+    /// Adds an order that writes to no client, and gives the counts of notes after it.
     fn add(&mut self, order: Order, told: [u64; MOST_NODES]) -> Result<(), AllocError>
         requires counted { told ≡ counts self.old.before (self.old.items ++ order ∷ []) }
         requires other { written_by order ≡ None }
@@ -153,8 +153,7 @@ impl Orders {
         Ok(())
     }
 
-    /// What was ordered; it is not given again, and stays counted. What is written to one client by orders
-    /// that follow each other is one order.
+    /// What was ordered; it is not returned again, and stays counted. Consecutive writes to one client are one order.
     #[tactic(auto, unfolding(crate::specs::Telling::counts))]
     pub fn take(&mut self) -> Vec<Order>
         ensures given { deeds result.items ≡ deeds self.old.items }

@@ -11,8 +11,8 @@ use std::collections::VecDeque;
 use std::marker::Model;
 use std::mem::replace;
 
-/// The most questions that wait who is in a channel. One more is dropped.
-// one of each channel: a setup names at most 100, and people may join more
+/// The most questions for who is in a channel that wait. One more is dropped.
+// one for each channel: a setup names at most 100, and people may join more
 const MOST_QUESTIONS: usize = 1_000;
 
 /// What goes to the server as one line.
@@ -27,7 +27,7 @@ pub enum Piece {
 }
 
 impl Piece {
-    /// Whether it is a line that is said.
+    /// Whether it is a said line: one that was handed out, and is no question.
     pub fn is_said(&self) -> bool
         ensures { result ≡ is_said self.now }
     {
@@ -37,7 +37,7 @@ impl Piece {
         }
     }
 
-    /// The line's bytes, cut to what fits into a line.
+    /// The line's bytes, cut to what fits in a line.
     pub fn into_bytes(self, alloc: Global) -> Result<Vec<u8>, AllocError>
         ensures { IfOk result (λ bytes. bytes.items ≡ piece_bytes self) }
     {
@@ -53,16 +53,16 @@ impl Piece {
 }
 
 /// What waits to go to the server in a session: what each session sends first, JOINs of its channels, then what people
-/// say, and behind it questions who is in a channel, at most one of a channel.
+/// say, and after it questions for who is in a channel, at most one a channel.
 ///
-/// A clause sees all of it, what goes first first.
+/// A clause sees all of it, in the order in which it goes.
 #[derive(Drop)]
 pub struct Outgoing {
     alloc: Global,
     /// What goes before all else.
     opening: VecDeque<Line>,
     joins: VecDeque<JoinLine>,
-    /// The last JOIN, which takes more channels.
+    /// The last JOIN, which has room for more channels.
     joining: Option<JoinLine>,
     said: VecDeque<Line>,
     questions: VecDeque<Line>,
@@ -97,21 +97,21 @@ impl Outgoing {
         }
     }
 
-    /// Whether a line that is said waits.
+    /// Whether a said line waits.
     pub fn has_said(&self) -> bool
         ensures { result ≡ has_said self.now }
     {
         !self.said.is_empty()
     }
 
-    /// How many lines that are said wait.
+    /// How many said lines wait.
     pub fn said_count(&self) -> usize
         ensures { result ≡ length self.now.said }
     {
         self.said.len()
     }
 
-    /// How many questions wait who is in a channel.
+    /// How many questions for who is in a channel wait.
     pub fn question_count(&self) -> usize
         ensures { result ≡ length self.now.questions }
     {
@@ -125,8 +125,8 @@ impl Outgoing {
         push_all(&mut self.opening, lines)
     }
 
-    /// A channel waits to be joined again, by this key, or by none where it has no bytes: in the last JOIN where it fits
-    /// in there.
+    /// A channel waits to be joined again, by this key, or without a key if it is empty: in the last JOIN if it fits
+    /// there.
     pub fn push_join(&mut self, channel: &[u8], key: &[u8]) -> Result<(), AllocError>
         ensures { OnOk result (self.new ≡ with_join channel.now key.now self.old) }
     {
@@ -142,8 +142,8 @@ impl Outgoing {
         Ok(())
     }
 
-    /// A line that was handed out waits in its place. A question is dropped where one of its channel waits: the
-    /// answer is shown to all clients, also to those that asked last.
+    /// A line that was handed out waits in its place. A question is dropped if one of its channel waits: the answer is
+    /// shown to all clients, also to those that asked last.
     pub fn push(&mut self, line: Line) -> Result<(), AllocError>
         ensures { OnOk result (self.new ≡ with_line line self.old) }
     {
@@ -155,14 +155,14 @@ impl Outgoing {
         Ok(())
     }
 
-    /// What is said waits no longer.
+    /// Drops said lines that wait.
     pub fn drop_said(&mut self)
         ensures { self.new ≡ without_said self.old }
     {
         self.said.clear();
     }
 
-    /// Whether a question is dropped: one of its channel waits, or as many wait as may.
+    /// Whether a question is dropped: one of its channel waits, or too many wait.
     fn is_dropped(&self, line: &Line) -> bool
         ensures { result ≡ is_dropped line.now self.now }
     {
@@ -179,8 +179,8 @@ impl Outgoing {
             .any(|asked| is_same_name(channel, asked.parameter(0)))
     }
 
-    /// What goes next: the first line that goes before all else, where none waits the first JOIN, then the first line that
-    /// is said, and where none waits, and questions are due, the first question. It waits no longer.
+    /// Takes what goes next: the first line that goes before all else, then the first JOIN, then the first said line,
+    /// and then, if questions are due, the first question.
     pub fn next(&mut self, are_due: bool) -> Option<Piece>
         ensures piece { result ≡ next_piece are_due self.old }
         ensures rest { self.new ≡ without_next are_due self.old }
@@ -203,7 +203,7 @@ impl Outgoing {
     }
 }
 
-/// Lines wait behind others.
+/// Lines wait after others.
 fn push_all(out: &mut VecDeque<Line>, lines: &[Line]) -> Result<(), AllocError>
     ensures { OnOk result (out.new.items ≡ out.old.items ++ lines.now) }
 {
@@ -214,7 +214,7 @@ fn push_all(out: &mut VecDeque<Line>, lines: &[Line]) -> Result<(), AllocError>
     Ok(())
 }
 
-/// Whether a line asks who is in a channel: a NAMES with the channel alone.
+/// Whether a line asks who is in a channel: a NAMES with only the channel.
 pub fn asks_names(line: &Line) -> bool
     ensures { result ≡ asks_names line.now }
 {

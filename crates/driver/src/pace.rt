@@ -1,19 +1,19 @@
-//! How often lines may be claimed.
+//! How often lines may go out.
 ghost use Rattle.std.specs.Prelude.{◌≡◌};
 ghost use Rattle.driver.specs.Pacing.{free_after, may_go};
 
-/// No moment is later: some 292 million years.
+/// The latest moment: some 292 million years.
 const LAST: u64 = 1 << 63;
 
-/// So many lines may go at once, and then one each so many milliseconds; in any stretch of time no
-/// more go than these and one for each such time in it.
+/// A burst of lines may go at once, and then one line in each interval. In any stretch of time no
+/// more go than the burst and one for each interval in it.
 #[derive(Clone, Copy, Debug, Drop, PartialEq, Eq)]
 pub struct Pace {
-    /// How many lines may go at once; as many as 1 where it is 0.
+    /// How many lines may go at once; 0 counts as 1.
     pub burst: u16,
-    /// How many milliseconds a line takes; where it is 0 there is no limit.
+    /// How many milliseconds a line takes; 0 means no limit.
     pub line_ms: u16,
-    /// When all is again as if none had gone.
+    /// When the full burst is available again.
     pub free_at: u64,
 }
 
@@ -31,7 +31,7 @@ impl Pace {
         }
     }
 
-    /// Whether a line may go at this moment, in milliseconds.
+    /// Whether a line may go at this moment.
     pub fn may_go(&self, now: u64) -> bool
         ensures { result ≡ may_go self.now.burst self.now.line_ms self.now.free_at now }
     {
@@ -39,7 +39,7 @@ impl Pace {
         now < LAST && self.free_at <= now + waits
     }
 
-    /// A line goes at this moment, where it may. Whether it does.
+    /// Lets a line go at this moment, if it may. Returns whether it does.
     pub fn go(&mut self, now: u64) -> bool
         ensures gone { result ≡ may_go self.old.burst self.old.line_ms self.old.free_at now }
         ensures burst { self.new.burst ≡ self.old.burst }

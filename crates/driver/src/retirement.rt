@@ -28,9 +28,9 @@ pub struct Lead {
 /// What is known of the last ask.
 #[derive(Clone, Copy)]
 pub enum Progress {
-    /// Its note, of this number, is not done yet; how the node led when it was told, if it did.
+    /// Its note, of this number, is not done yet; and how the node led when it was sent, if it did.
     Told(u64, Option<Lead>),
-    /// It stands in the log of a node that leads so, at this place or before it.
+    /// It is in the log of a node that leads like this, at this place or before it.
     Appended(Lead, u64),
     /// It may be lost.
     Lost,
@@ -38,8 +38,8 @@ pub enum Progress {
     Applied,
 }
 
-/// The retirement of a node's runs below one: the group is asked to agree that they are gone, until that
-/// is known to be applied.
+/// The retirement of a node's runs below one: the group is asked to agree that they are gone, until that is known to be
+/// applied.
 #[derive(Clone, Copy)]
 pub struct Retirement {
     node: NodeId,
@@ -71,7 +71,7 @@ impl Retirement {
         self.floor
     }
 
-    /// The runs of its node below this one are gone for all nodes, once it is known to be applied.
+    /// The runs of its node below this one are gone for all nodes, once that is known to be applied.
     pub fn applied_floor(&self) -> Option<Number>
         ensures { result ≡ applied_floor (Some self.now) }
     {
@@ -81,14 +81,14 @@ impl Retirement {
         }
     }
 
-    /// Whether it was asked last at this node.
+    /// Whether it was last asked at this node.
     pub fn is_via(&self, node: NodeId) -> bool
         ensures { result ≡ nat_eq self.now.via node }
     {
         self.via == node
     }
 
-    /// Whether it is to be asked for again: the last ask may be lost, and was not just made.
+    /// Whether it is to be asked for again: the last ask may be lost, and was not made just now.
     pub fn is_due(&self, now: &Now, settings: &Settings) -> bool
         ensures { result ≡ is_due self.now settings.now.timeout_ms now.now.ms }
     {
@@ -98,7 +98,7 @@ impl Retirement {
         }
     }
 
-    /// It is asked for at a node.
+    /// Asks for it at a node.
     pub fn ask(
         &mut self,
         now: &Now,
@@ -122,7 +122,7 @@ impl Retirement {
         Ok(())
     }
 
-    /// The node at which it was asked last stands so, and that many of its notes are done; whether a turn
+    /// A report of the node at which it was last asked: its state, how many of its notes are done, and whether a turn
     /// of it did nothing.
     pub fn hear(&mut self, status: &Status, done: u64, is_refused: bool)
         ensures { self.new ≡ record self.old
@@ -132,7 +132,7 @@ impl Retirement {
     }
 }
 
-/// What is known of an ask once more was heard of the node that was asked.
+/// What is known of an ask after a report of the node that was asked.
 #[tactic(auto, unfolding(crate::specs::Retiring::progress_after))]
 fn progress_after(progress: Progress, status: &Status, done: u64, is_refused: bool) -> Progress
     ensures { result ≡ progress_after progress status.now done is_refused }
@@ -147,7 +147,7 @@ fn progress_after(progress: Progress, status: &Status, done: u64, is_refused: bo
     }
 }
 
-/// How a node leads that stands so, if it does.
+/// How a node in this state leads, if it does.
 fn lead_of(status: &Status) -> Option<Lead>
     ensures { result ≡ lead_of status.now }
 {
@@ -160,8 +160,8 @@ fn lead_of(status: &Status) -> Option<Lead>
     })
 }
 
-/// What is known of an ask that is done at a node that led when it was told, if it did: such a node has
-/// put it into its log.
+/// What is known of an ask that is done, given how the node led when it was sent, if it did: a leader has appended it
+/// to its log.
 fn appended_by(lead: Option<Lead>, status: &Status) -> Progress
     ensures { result ≡ appended_by lead status.now }
 {
@@ -171,8 +171,7 @@ fn appended_by(lead: Option<Lead>, status: &Status) -> Progress
     }
 }
 
-/// What is known of an ask that stands in the log of a node that led so: as long as it leads so, its log
-/// only grows.
+/// What is known of an ask in the log of a node that led like this: as long as it does, its log only grows.
 fn standing_by(lead: Lead, place: u64, status: &Status) -> Progress
     ensures { result ≡ standing_by lead place status.now }
 {

@@ -28,7 +28,7 @@ pub struct Retirements {
 }
 
 impl Retirements {
-    /// There is none.
+    /// No retirements.
     pub fn new() -> Retirements
         ensures { result.all ≡ no_retirements }
     {
@@ -58,7 +58,7 @@ impl Retirements {
         Ok(())
     }
 
-    /// The runs of this node that are over are retired: that is asked for once a node leads.
+    /// The runs of this node that are over are to be retired: asked for once a node leads.
     pub fn retire_run(
         &mut self,
         now: &Now,
@@ -76,7 +76,7 @@ impl Retirements {
         retire(place, now, settings, monitor);
     }
 
-    /// A node stands so, and that many of its notes are done; whether a turn of it did nothing.
+    /// A report of a node: its state, how many of its notes are done, and whether a turn of it did nothing.
     pub fn hear(&mut self, node: NodeId, status: &Status, done: u64, is_refused: bool)
         ensures { self.new ≡ record self.old
             { all = map (heard_in node status.now done is_refused) self.old.all } }
@@ -84,8 +84,8 @@ impl Retirements {
         hear_each(self.all.as_mut_slice(), node, status, done, is_refused);
     }
 
-    /// Time passed: what may be lost is asked for again, at the node that leads; so is the retirement of a
-    /// node that is down, or answered nothing for ten timeouts.
+    /// Time passed: what may be lost is asked for again, at the node that leads, and so is the retirement of a node
+    /// that is down or has not answered for ten timeouts.
     pub fn tick(
         &mut self,
         now: &Now,
@@ -121,8 +121,8 @@ impl Retirements {
         Ok(())
     }
 
-    /// A node's turn: where it is down, or answered nothing for ten timeouts, its run is retired;
-    /// and a retirement that is due is asked for at the node that leads.
+    /// A node's turn: if it is down, or has not answered for ten timeouts, its run is retired; and
+    /// a retirement that is due is asked for at the node that leads.
     fn spread(
         &mut self,
         now: &Now,
@@ -142,7 +142,7 @@ impl Retirements {
         Ok(())
     }
 
-    /// What a node is told by the clock, and by the retirement of its run.
+    /// The notes that a node gets from the clock, and from the retirement of its run.
     pub fn tick_monitor(
         &self,
         now: &Now,
@@ -160,8 +160,8 @@ impl Retirements {
         Ok(())
     }
 
-    /// A node that lives on in a run that is gone for all nodes is started again: what its clients ask for
-    /// is refused from then on.
+    /// Restarts a node that lives on in a run that is gone for all nodes: the requests of its clients are refused from
+    /// then on.
     fn restart_outlived(
         &self,
         monitor: &mut NodeMonitor,
@@ -189,7 +189,7 @@ impl Retirements {
     }
 }
 
-/// More was heard of a node: each retirement that went by it knows it.
+/// A node reported: each retirement that was asked for at it takes note.
 fn hear_each(
     places: &mut [Option<Retirement>],
     node: NodeId,
@@ -204,7 +204,7 @@ fn hear_each(
     }
 }
 
-/// A retirement that went by this node knows what more was heard of it.
+/// A retirement that was asked for at this node takes note of its report.
 fn hear_at(
     place: &mut Option<Retirement>,
     node: NodeId,
@@ -221,7 +221,7 @@ fn hear_at(
     }
 }
 
-/// Where a node is down, or answered nothing for ten timeouts, its run is retired.
+/// Retires the run of a node that is down, or has not answered for ten timeouts.
 fn retire(place: &mut Option<Retirement>, now: &Now, settings: &Settings, monitor: &NodeMonitor)
     ensures { place.new ≡ retired settings.now now.now.ms monitor.now place.old }
 {
@@ -233,7 +233,7 @@ fn retire(place: &mut Option<Retirement>, now: &Now, settings: &Settings, monito
     }
 }
 
-/// A retirement that is due is asked for at this node.
+/// Asks for a retirement at this node, if it is due.
 fn ask_if_due(
     place: &mut Option<Retirement>,
     now: &Now,

@@ -1,5 +1,5 @@
-//! What a client hears where the server ends the bouncer's session: not the server's own line, by which its program
-//! would hang up, but a NOTICE.
+//! What a client gets when the server ends the bouncer's session: not the server's own line, at which its program would
+//! hang up, but a NOTICE.
 ghost use Rattle.std.specs.Prelude.{◌≡◌, ◌++◌, IfOk, OnOk, option_map, unwrap_or};
 ghost use Rattle.irc_line.specs.Reading.{canonical, judged};
 ghost use Rattle.driver.specs.Rewording.{behind_colon, ending_in, ending_of, is_kill, may_end};
@@ -17,7 +17,7 @@ use session_fence::FenceEffect;
 use std::alloc::{AllocError, Global};
 use upstream_claim::ClaimsEffect;
 
-/// An effect as a client of this nick hears it; none where that is the effect itself.
+/// An effect as a client of this nick gets it; none if it is unchanged.
 pub fn reworded(
     alloc: Global,
     nick: &[u8],
@@ -38,7 +38,7 @@ pub fn reworded(
     Ok(Some(Answer::Effect(ClaimsEffect::Inner(told))))
 }
 
-/// A NOTICE of `*status` that tells who has this nick a text.
+/// A NOTICE of `*status` to this nick with a text.
 fn noticed(alloc: Global, nick: &[u8], text: &[u8]) -> Result<Shown, AllocError>
     ensures { IfOk result (λ shown. shown ≡ noticed nick.now text.now) }
 {
@@ -50,7 +50,7 @@ fn noticed(alloc: Global, nick: &[u8], text: &[u8]) -> Result<Shown, AllocError>
     )
 }
 
-/// What a client is told of what is shown, where that is a line by which the server ends the session.
+/// What a client gets for a shown line, if the server ends the session by it.
 fn ending_in(alloc: Global, nick: &[u8], shown: &[u8]) -> Result<Option<Vec<u8>>, AllocError>
     ensures { IfOk result (λ text. option_map (λ text. text.items) text
         ≡ ending_in nick.now (canonical shown.now (judged shown.now))) }
@@ -64,7 +64,7 @@ fn ending_in(alloc: Global, nick: &[u8], shown: &[u8]) -> Result<Option<Vec<u8>>
     ending_of(alloc, nick, &line)
 }
 
-/// Whether a line may be one of these by the front of its command, as nearly none may.
+/// Whether the start of a line's command allows it to be such a line, which is rare.
 fn may_end(shown: &[u8]) -> bool
     ensures { result ≡ may_end shown.now }
 {
@@ -72,7 +72,7 @@ fn may_end(shown: &[u8]) -> bool
     command.starts_with(b"ERROR") || command.starts_with(b"KILL")
 }
 
-/// What stands behind the prefix of a line, by its spelling.
+/// The part of a line after its prefix.
 fn unprefixed(shown: &[u8]) -> &[u8]
     ensures { result.now ≡ unprefixed shown.now }
 {
@@ -82,7 +82,7 @@ fn unprefixed(shown: &[u8]) -> &[u8]
     }
 }
 
-/// What a client is told where the server ends the session by this line.
+/// What a client gets when the server ends the session by this line.
 fn ending_of(alloc: Global, nick: &[u8], line: &Line) -> Result<Option<Vec<u8>>, AllocError>
     ensures { IfOk result (λ text. option_map (λ text. text.items) text
         ≡ ending_of nick.now line.now) }
@@ -101,28 +101,28 @@ fn ending_of(alloc: Global, nick: &[u8], line: &Line) -> Result<Option<Vec<u8>>,
     Ok(Some(text))
 }
 
-/// Whether a line is the KILL of who has this nick.
+/// Whether a line is the KILL of the user with this nick.
 fn is_kill(line: &Line, nick: &[u8]) -> bool
     ensures { result ≡ is_kill nick.now line.now }
 {
     has_command(line, b"KILL") && is_same_name(nick, line.parameter(0))
 }
 
-/// The last parameter of a line; no bytes where there is none.
+/// The last parameter of a line; empty if there is none.
 pub fn last_parameter(line: &Line) -> &[u8]
     ensures { result.now ≡ last_parameter line.now }
 {
     line.parameter(line.parameter_count().saturating_sub(1))
 }
 
-/// This nick, or the server where there is none.
+/// This nick, or the server if it is empty.
 pub fn nick_or_server(nick: &[u8]) -> &[u8]
     ensures { result.now ≡ nick_or_server nick.now }
 {
     if nick.is_empty() { b"the server" } else { nick }
 }
 
-/// Appends a text behind a colon, where there is one.
+/// Appends a text after a colon, if it is not empty.
 fn push_behind_colon(out: &mut Vec<u8>, text: &[u8]) -> Result<(), AllocError>
     ensures { OnOk result (out.new.items ≡ out.old.items ++ behind_colon text.now) }
 {

@@ -1,9 +1,9 @@
-//! What a driver goes by.
+//! The settings of a driver.
 use crate::channel_key::ChannelKey;
 use irc_line::{Line, Name, Text};
 use raft_log::GroupSize;
 
-/// What a driver goes by.
+/// The settings of a driver.
 #[derive(Drop)]
 pub struct Settings {
     /// How many nodes there are.
@@ -22,7 +22,7 @@ pub struct Settings {
     pub beat_ms: u16,
     /// After how long without a leader an election begins, in milliseconds.
     pub timeout_ms: u16,
-    /// How many lines may go to the server at once.
+    /// How many lines may go to the server in a burst.
     pub flood_burst: u16,
     /// How long each further line waits, in milliseconds.
     pub flood_ms: u16,

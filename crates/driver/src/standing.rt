@@ -1,4 +1,4 @@
-//! How the nodes stand, in words.
+//! The state of the nodes, in words.
 ghost use Rattle.std.specs.Prelude.{◌≡◌, ◌++◌, IfOk, OnOk, is_some};
 ghost use Rattle.driver.specs.Leading.{is_that};
 ghost use Rattle.driver.specs.Standing.{client_text, log_text, name_text, node_text, node_texts, nodes_text, state_words};
@@ -11,7 +11,7 @@ use raft_log::NodeId;
 use std::alloc::{AllocError, Global};
 use wire_bytes::Origin;
 
-/// How these nodes stand, of which this one leads, if one does.
+/// The state of these nodes, of which this one leads, if one does.
 pub fn nodes_text(
     alloc: Global,
     leader: &Option<NodeId>,
@@ -24,7 +24,7 @@ pub fn nodes_text(
     Ok(text)
 }
 
-/// Appends how these nodes stand.
+/// Appends the state of these nodes.
 #[tactic(auto, unfolding(crate::specs::Standing::node_texts))]
 fn push_nodes(
     out: &mut Vec<u8>,
@@ -42,7 +42,7 @@ fn push_nodes(
     }
 }
 
-/// Appends how a node stands.
+/// Appends the state of a node.
 fn push_node(
     out: &mut Vec<u8>,
     leader: &Option<NodeId>,
@@ -58,7 +58,7 @@ fn push_node(
     Ok(())
 }
 
-/// How a node stands that leads or not, hangs or not, and is up or not.
+/// The state of a node that leads or not, hangs or not, and is up or not.
 fn state_words(leads: bool, hangs: bool, is_up: bool) -> &'static [u8]
     ensures { result.now ≡ state_words leads hangs is_up }
 {
@@ -73,7 +73,7 @@ fn state_words(leads: bool, hangs: bool, is_up: bool) -> &'static [u8]
     }
 }
 
-/// How full the log is of which the node that leads has so many entries, if one leads.
+/// How full the log is if the leading node has this many entries, if one leads.
 pub fn log_text(alloc: Global, entries: Option<u64>) -> Result<Vec<u8>, AllocError>
     ensures { IfOk result (λ text. text.items ≡ log_text entries) }
 {
@@ -86,7 +86,7 @@ pub fn log_text(alloc: Global, entries: Option<u64>) -> Result<Vec<u8>, AllocErr
     Ok(text)
 }
 
-/// A client of this origin, by its number, its name, if it has one, and its node.
+/// A client of this origin: its number, its name, if it has one, and its node.
 pub fn client_text(
     alloc: Global,
     origin: Origin,

@@ -1,7 +1,7 @@
 //! How long ago something was.
 ghost use Rattle.std.specs.Prelude.{◌≡◌, ◌-◌, nat_le};
 
-/// Tells how long ago something was, by a clock of milliseconds.
+/// Remembers a moment of a millisecond clock.
 #[derive(Clone, Copy, Debug, Drop, PartialEq, Eq)]
 pub struct Timer {
     /// When it was.
@@ -16,7 +16,7 @@ impl Timer {
         Timer { since: now }
     }
 
-    /// Whether it was so many milliseconds ago. At a moment before it nothing has passed.
+    /// Whether it was at least this many milliseconds ago. At an earlier moment nothing has passed.
     pub fn has_passed(&self, wait: u64, now: u64) -> bool
         ensures { result ≡ nat_le wait (now - self.now.since) }
     {

@@ -11,7 +11,7 @@ use Rattle.raft_log.specs.Steps.{IsSending, Prepares}
 use Rattle.raft_log.proofs.Sending.{sent-prepares}
 use Rattle.election.specs.Elections.{grants, on_request_vote}
 
--- the answer to a request, and the vote with it where it is granted
+-- the answer to a request, and the vote with it if it is granted
 pub votes : {B : Type 0} (i from t index last : ℕ) (s voted : Standing) (own to : ℕ) (granted : Bool) (log : List (Entry B)) (step : Step B)
     → IsSending voted log (message voted.term own to (Vote granted) ∷ []) step → own ≡ i → to ≡ from
     → granted ≡ grants (node_of s log []) from t index last → voted ≡ (if granted then record s { vote = Some from } else s)

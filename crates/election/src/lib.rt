@@ -1,6 +1,6 @@
-//! How a leader is elected: the steps of a node that begins an election, is asked for its vote, or is given one.
-//! Stands under replication, node_steps and driver.
-//! Each step is known before anything changes and is exactly the definition's case; what it saves fits a store.
+//! How a leader is elected: the steps of a node that begins an election, is asked for its vote, or gets one.
+//! replication, node_steps and driver use it. Each step is known before anything changes and is exactly the
+//! definition's case; what it saves fits a store.
 #![tactic(auto)]
 
 mod timeout;

@@ -6,8 +6,8 @@ use raft_log::{Kind, Log, Message, NodeId, Peers, Position, Standing, Step};
 use std::alloc::{AllocError, Global};
 use wire_bytes::{LAST_NUMBER, Number, Wire};
 
-/// Begins an election, as a candidate does by section 5.2 of the Raft paper: the next term, the own vote,
-/// and a request for the vote of each other node, by rising number.
+/// Begins an election, as a candidate does by section 5.2 of the Raft paper: the next term, a vote for itself, and a
+/// request for the vote of each other node, by rising number.
 ///
 /// A leader does nothing, and no term follows 2^60.
 pub fn begin<B: Wire>(
@@ -20,6 +20,7 @@ pub fn begin<B: Wire>(
     ensures savable { IfOk result (IsSavable standing log.now) }
     ensures places { IfOk result (KeepsWithinLog standing log.now) }
 {
+    // a timeout may come late, once the node was elected
     if let Position::Leader(_) = standing.position {
         return Ok(Step::still(alloc, standing, log));
     }
@@ -40,7 +41,7 @@ pub fn begin<B: Wire>(
     Ok(Step::sending(begun, log, messages))
 }
 
-/// What is sent to each other node, by rising number.
+/// The messages to the other nodes, by rising number.
 fn vote_requests<B: Wire>(
     alloc: Global,
     peers: Peers,

@@ -9,10 +9,10 @@ use raft_log::{Kind, Log, Message, NodeId, Position, Standing, Step};
 use std::alloc::{AllocError, Global};
 use wire_bytes::{Number, Wire};
 
-/// Answers a request for a vote, of a term that is not larger than the own, with the own term, as a
-/// receiver of RequestVote does in Figure 2 of the Raft paper.
+/// Answers a request for a vote, of a term that is not larger than the node's own, with the node's
+/// own term, as a receiver of RequestVote does in Figure 2 of the Raft paper.
 ///
-/// Granted where the term is the own, the vote is none or the candidate (section 5.2), and its log is at
+/// Granted if the term is the node's own, it has not voted for another (section 5.2), and the candidate's log is at
 /// least as up to date (section 5.4.1).
 pub fn on_request_vote<B: Wire>(
     alloc: Global,
@@ -68,7 +68,7 @@ fn grants<B: Wire>(
 /// Takes an answer to a request for a vote. A majority makes a candidate the leader of its term: section
 /// 5.2 of the Raft paper. It then sends to each node from the end of its log on (Figure 2).
 ///
-/// A node is counted once, however often it answers. Nothing is sent, and nothing of it is saved.
+/// A node is counted once, however often it answers. Nothing is sent, and nothing is saved.
 pub fn on_vote<B: Wire>(
     standing: Standing,
     log: &Log<B>,
@@ -90,7 +90,7 @@ pub fn on_vote<B: Wire>(
     standing
 }
 
-/// With the vote of a node, and leading where that makes a majority.
+/// The standing with the vote of a node, leading if that makes a majority.
 fn counted<B: Wire>(standing: Standing, log: &Log<B>, from: NodeId) -> Standing
     requires { standing.position ≡ Candidate }
     ensures step { Becomes

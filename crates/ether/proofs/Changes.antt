@@ -175,7 +175,7 @@ module _ (M : Machine) (n : ℕ) (vs : List (ViewOf M)) (next i : ℕ) (v : View
         sent = λ h. subst (λ (s : Node M.Body). item s.sent e.number ≡ Some e.message) (r.state ∙ ap (runs M v (start v)) (sym whole)) (sent h);
       }
 
-  -- and what stands of the node, it sent
+  -- and what stands with the node, it sent
   pub own_sent : (e : Envelope M.Body) → Stands M vs next e → sender e ≡ i → upto next v.turns ≡ v.turns → v.honest ≡ true → item v.state.sent e.number ≡ Some e.message
   own_sent e stands from whole h =
       let is : stands.by ≡ v = same stands.by (subst (λ (j : ℕ). get_elem? vs j ≡ some stands.by) from stands.at) in

@@ -28,7 +28,7 @@ total_set (x ∷ xs) zero v w e = let same : draws x ≡ draws v = ap draws (som
 total_set (x ∷ xs) (suc i) v w e = let r = total_set xs i v w e in omega arith
 
 module _ (M : Machine) where
-  -- what a change of the view v of node i to w has to bring, where the next ticket becomes `next'`
+  -- what a change of the view v of node i to w has to bring, if the next ticket becomes `next'`
   pub record Changes (vs : List (ViewOf M)) (next next' i : ℕ) (v w : ViewOf M) : Type 0 where
     pub up : next ≤ next'
     pub keeps : (t : ℕ) → Drew v t → Drew w t

@@ -204,7 +204,7 @@ module _ (M : Machine) where
         };
       }
 
-  -- the same of a table that is made for so many nodes, as its maker counts them
+  -- the same for a table that is made for this many nodes, as its maker counts them
   pub begins_as : (n count : ℕ) (ws words : List ℕ) → count ≡ n → IsGroupSize n → words ≡ ws → length ws ≡ count * count + 1 → get_or ws 0 0 ≡ 0
       → ((a k : ℕ) → 0 < a → get_elem? ws a ≡ some k → a ≡ k + 1) → IsKept M n (opening words (replicate (count * count + count) None) (dealer n))
   begins_as n count ws words is size same long first boxes =

@@ -19,7 +19,7 @@ use Rattle.ether.proofs.Cutting.{rule_at_first}
 use Rattle.ether.proofs.Knowing.{at_end}
 
 module _ {B L T : Type 0} where
-  -- of these passes some are left, and the views of all others are among these
+  -- some of these passes are left, and the views of all others are among these
   abbrev pub Gathered : List (Pass B L T) → List (Pass B L T) → List (View B L T) → Type 0
   Gathered all rest vs =
       ((k : ℕ) (p : Pass B L T) → IsAt rest k p → IsAt all k p)
@@ -86,7 +86,7 @@ same_list (x ∷ xs) (y ∷ ys) long has =
     (λ d. first d ∷ rest d)
 
 module _ (M : Machine) where
-  -- where none is left, all views are of one moment
+  -- if none is left, all views are of one moment
   pub all_meet : (t : TableId) (n : ℕ) (all : List (Pass M.Body M.Line M.Target)) (vs : List (ViewOf M)) → length all ≡ n
       → ((i : ℕ) (p : Pass M.Body M.Line M.Target) → IsAt all i p → IsPassAt t n p × (p.node ≡ i)) → Gathered all [] vs → AreOfOneMoment M n vs → AllMeet M n all
   all_meet t n all vs many are g r =

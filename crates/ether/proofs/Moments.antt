@@ -73,7 +73,7 @@ module _ {B L T : Type 0} where
   two_views false k ls v true l ls' w = refl
   two_views false k ls v false l ls' w = refl
 
-  -- a meeting leaves both seats as they were, and in the midst one seat has both views
+  -- a meeting leaves both seats unchanged, and during it one seat has both views
   pub meets_back : (one0 one1 one2 one3 other0 other1 other2 lent back : Me (Option (Envelope B)) (Known B L T)) (a : Bool) (k : ℕ) (ls : List (Look B)) (v : View B L T) (b : Bool) (l : ℕ) (ls' : List (Look B)) (w : View B L T)
       → one0 ≡ holding a k ls v → other0 ≡ holding b l ls' w
       → other1 ≡ (first_part 0 other0.0.spare other0.0, other0.1) → lent ≡ (rest_part 0 Gone other0.0, []) → one1 ≡ (both one0.0 lent.0, one0.1) → one2 ≡ one1

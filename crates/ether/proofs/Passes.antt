@@ -89,7 +89,7 @@ module _ {B L T : Type 0} where
       ⊎_elim (are i q)
       (λ (x : (i ≡ length ps) × (p ≡ q)). subst (λ (y : ℕ × Pass B L T). IsPassAt t n y.1 × (y.1.node ≡ y.0) × (view_of y.1 ≡ blank n y.0) × (looks_of y.1 ≡ [])) (λ k. (sym x.0 k, x.1 k)) is) (at_end ps p q i e)
 
-  -- of the blanks from i on: the first, and the rest
+  -- the blanks from i on: the first, and the rest
   first_blank : (s i n m : ℕ) (vs : List (View B L T)) → n ≡ suc m → vs ≡ blanks s i n → take 1 vs ≡ blank s i ∷ []
   first_blank s i n m vs e is = ap (λ (xs : List (View B L T)). take 1 xs) is ∙ ap (λ (k : ℕ). take 1 (blanks s i k)) e
 
@@ -126,7 +126,7 @@ module _ {B L T : Type 0} where
       let slot_is : m.1 ≡ (r, y) ∷ [] → out ≡ y = (λ h. ap slot_in (sym had ∙ h)) in
       (is' ∙ ap (λ (x : Me (Option (Envelope B)) (Known B L T)). (x.0, (r, None) ∷ rest x.1)) is, sym (slot_is (ap (λ (x : Me (Option (Envelope B)) (Known B L T)). x.1) is)))
 
-  -- the slot that was found lies in the seat's hand
+  -- the slot that was found is carried by the seat
   pub slot_first : (r : ℕ) (y : Option (Envelope B)) (k : Known B L T) (m : Me (Option (Envelope B)) (Known B L T)) → m ≡ (k, (r, y) ∷ []) → m.1 ≡ (r, y) ∷ rest m.1
   slot_first r y k m is = ap (λ (x : Me (Option (Envelope B)) (Known B L T)). x.1) is ∙ sym (ap (λ (x : Me (Option (Envelope B)) (Known B L T)). (r, y) ∷ rest x.1) is)
 
@@ -160,7 +160,7 @@ module _ {B L T : Type 0} where
         λ o. is_open q ls v o.0.0 empty.0 (same.3 ∙ o.0.1),
       )
 
-  -- a pass after a post for which an empty slot came back
+  -- a pass after a post that got an empty slot back
   pub posted_pass : (t : TableId) (n : ℕ) (p q : Pass B L T) (w : ℕ) (e : Envelope B) (y : Option (Envelope B)) (m : Me (Option (Envelope B)) (Known B L T)) → IsPassAt t n p → IsOpen p
       → m ≡ carrying p.spare (Some e) (looks_of p) (view_of p)
       → q.seat.me ≡ (known (Out q.spare) (m.0.looks ++ look_at w y ∷ []) (on_first (λ x. after_post x (number_in m.1)) m.0.views), (q.spare, y) ∷ []) → y ≡ None
@@ -186,7 +186,7 @@ pub first_stays : (ws : List ℕ) (n x : ℕ) → length ws ≡ n + 1 → get_or
 first_stays [] n x long = absurd (omega arith)
 first_stays (w ∷ ws) n x long = refl
 
--- a number that is not 0 comes behind another
+-- a number that is not 0 comes after another
 pub one_behind : (n : ℕ) → 1 ≤ n → n ≡ suc (pred n)
 one_behind ℕ.zero h = absurd (omega arith)
 one_behind (ℕ.suc n) h = refl

@@ -58,7 +58,7 @@ mailbox_low n i j a b =
     let e = suc-mul i n in
     omega arith
 
--- what most steps tell reads nothing of the step itself
+-- what most steps say reads nothing of the step itself
 abbrev pub no_step : {S : Type 0} → Step S
 no_step = record { slots = 0; word = 0; first = 0; second = 0; said = maybe.none }
 
@@ -111,7 +111,7 @@ module _ (M : Machine) (n : ℕ) (s : StateOf M) (r : IsKept M n s) where
         still_stands M r.views (slice_index s.words 0) next v.node v w known_at c (slice_index s.words 0) next e (omega arith) up h
 
 module _ (M : Machine) where
-  -- what lay in a mailbox of the pair was sent by the one node to the other
+  -- what was in a mailbox of the pair was sent by one node to the other
   older_by : (n : ℕ) (s : StateOf M) (r : IsKept M n s) (v : ViewOf M) (e : Envelope M.Body) (a : ℕ) → get_elem? r.views v.node ≡ some v → v.node < n → addressee e < n
       → a ≡ mailbox_of n v.node (addressee e) → e.message.to ≡ suc (addressee e) → (y : SlotOf M) → MayLie M n r.views (slice_index s.words 0) a y → IsOlder v e y
   older_by n s r v e a at near near' is to None lies = tt
@@ -180,7 +180,7 @@ module _ (M : Machine) where
   is_from n vs next a from node near is (Some e) lies =
       lies.0.named ∙ ap suc (same_mailbox n (sender e) (addressee e) from node lies.3 near (let one = lies.1 in omega arith)).1
 
-  -- what lay in a mailbox of the node is heard
+  -- the message in a mailbox of the node is heard
   takes_lying : (n : ℕ) (s : StateOf M) (r : IsKept M n s) (v : ViewOf M) (from a : ℕ) → get_elem? r.views v.node ≡ some v → v.node < n → a ≡ mailbox_of n from v.node → (y : SlotOf M)
       → MayLie M n r.views (slice_index s.words 0) a y → Changes M r.views (slice_index s.words 0) (slice_index s.words 0) v.node v (after_take v y)
   takes_lying n s r v from a at near is None lies = nothing_changes M n r.views (slice_index s.words 0) v.node v at r.rule

@@ -1,4 +1,4 @@
--- The slots: who has which, after each kind of step.
+-- The slots: what has which, after each kind of step.
 use Rattle.std.proofs.Common.{◌≡◌, ◌≢◌, ℕ, ◌+◌, ◌*◌, ◌<◌, ◌≤◌, ⊎_elim, Bool, cond, eqb, List, length, set, Option, Some, None, refl, sym, ap, ◌∙◌, subst, arith, eq-eqb, ne_eqb, length-set, mul-le-mul_right}
 use mathlib.Core.Option.{some, some-injective, some-ne-none}
 use mathlib.Core.Option as maybe
@@ -37,7 +37,7 @@ slot_unmarked k low = omega arith
 pub slot_marked : (k : ℕ) → k < 64 → k ≡ slot_of (k + 64)
 slot_marked k low = omega arith
 
--- a seat's slots are as they were
+-- a seat's slots are unchanged
 pub holds_same : {B : Type 0} (owner owner' : ℕ → Owner) (homes homes' : List (maybe.Option (Option (Envelope B)))) (id : ℕ) → length homes' ≡ length homes
     → ((i : ℕ) → i < length homes → owner i ≡ seat id → (owner' i ≡ seat id) × (get_elem? homes' i ≡ get_elem? homes i))
     → (x : Spare) → Holds owner homes id x → Holds owner' homes' id x

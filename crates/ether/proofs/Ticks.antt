@@ -40,7 +40,7 @@ module _ (M : Machine) where
         refl,
       ))
 
-  -- the opening, where the spare is out already, and where it is at home
+  -- the opening, if the spare is out already, and if it is at home
   opens_out : (n slots id : ℕ) (st : Step (SlotOf M)) (k : ℕ) (ls : List (Look M.Body)) (v : ViewOf M) (h : Bool) (new : Node M.Body) → v.opened ≡ None → new.sent ≡ []
       → Allows (IsKept M n) slots id (holding true k ls v) 0 (λ x. (x + 1) % 18446744073709551616) (opens_seat (opened h new) st (holding true k ls v))
   opens_out n slots id st k ls v h new closed fresh s r wide at _ =
@@ -83,7 +83,7 @@ module _ (M : Machine) where
   opens_by n slots id me st false k ls v h new is closed fresh =
       subst (λ (m : Me (SlotOf M) (SeatOf M)). Allows (IsKept M n) slots id m 0 (λ x. (x + 1) % 18446744073709551616) (opens_seat (opened h new) st m)) (sym is) (opens_home n slots id st k ls v h new closed fresh)
 
-  -- the same of what a step tells, where that is an opening
+  -- the same for what a step says, if that is an opening
   pub opens_as : (n slots id : ℕ) (me : Me (SlotOf M) (SeatOf M)) (st : Step (SlotOf M)) (f : ℕ → SeatOf M → SeatOf M) (out : Bool) (k : ℕ) (ls : List (Look M.Body)) (v : ViewOf M) (h : Bool) (new : Node M.Body)
       → f ≡ opened h new → me ≡ holding out k ls v → v.opened ≡ None → new.sent ≡ []
       → Allows (IsKept M n) slots id me 0 (λ x. (x + 1) % 18446744073709551616) (opens_seat f st me)

@@ -21,7 +21,7 @@ pub record EtherParts (Setup : Type 0) : Type 0 where
   pub setup : Setup
 
 module _ {B L T : Type 0} where
-  -- the first of these views, or this one where there is none
+  -- the first of these views, or this one if there is none
   abbrev pub first_or : View B L T → List (View B L T) → View B L T
   first_or v [] = v
   first_or v (w ∷ ws) = w
@@ -30,11 +30,12 @@ module _ {B L T : Type 0} where
   abbrev pub view_of : Pass B L T → View B L T
   view_of p = first_or (blank 0 0) p.seat.me.0.views
 
-  -- the mailboxes that it looked into, by posts and takes, and what lay in each, in order
+  -- the mailboxes that it looked into, by posts and takes, and what was in each, in order
   abbrev pub looks_of : Pass B L T → List (Look B)
   looks_of p = p.seat.me.0.looks
 
-  -- A pass of the ether with this table, for so many nodes. Its spare slot is at home until the opening, or a take before it that finds a message.
+  -- A pass of the ether with this table, for this many nodes. Its spare slot is at home until the opening, or an
+  -- earlier take that finds a message.
   pub record IsPassAt (table : TableId) (size : ℕ) (p : Pass B L T) : Type 0 where
     pub of_table : p.seat.table_id ≡ table
     pub out : Bool
@@ -54,12 +55,12 @@ module _ {B L T : Type 0} where
   abbrev pub IsUnopened : Pass B L T → Type 0
   IsUnopened p = (view_of p).opened ≡ None
 
-  -- the pass is as it was
+  -- the pass is unchanged
   abbrev pub IsSamePass : Pass B L T → Pass B L T → Type 0
   IsSamePass old new =
       (view_of new ≡ view_of old) × (looks_of new ≡ looks_of old) × (new.node ≡ old.node) × (IsOpen old → IsOpen new)
 
-  -- what the event brings, if it brings something, was heard
+  -- the event's message, if it has one, was heard
   abbrev pub IsHeard : View B L T → NodeEvent B L T → Type 0
   IsHeard v e = (m : Envelope B) → brings e ≡ Some m → (k : ℕ) × IsAt v.heard k m
 

@@ -1,4 +1,4 @@
--- What each kind of step tells: of the step, the seat before, the number found and the seat after.
+-- What each kind of step says: about the step, the seat before, the number found and the seat after.
 use Rattle.std.specs.Prelude.{◌≡◌, ℕ, suc, ◌+◌, ◌<◌, ◌≤◌, Bool, true, false, List, [], ◌∷◌, ◌++◌, take, drop, Option, Some, None}
 use Rattle.atomic_table.specs.Table.{Me, Step}
 use Rattle.raft_log.specs.Lists.{item}
@@ -20,7 +20,7 @@ module _ {B L T : Type 0} where
   abbrev pub after_post : View B L T → ℕ → View B L T
   after_post v number = record v { posted = v.posted ++ number ∷ [] }
 
-  -- after a look into a mailbox, in which this lay
+  -- after a look into a mailbox that had this
   abbrev pub after_take : View B L T → Option (Envelope B) → View B L T
   after_take v None = v
   after_take v (Some e) = record v { heard = v.heard ++ e ∷ [] }
@@ -50,7 +50,7 @@ module _ {B L T : Type 0} where
   abbrev pub on_view : (View B L T → View B L T) → Known B L T → Known B L T
   on_view f s = record s { views = on_first f s.views }
 
--- a seat's spare once it is taken out of its home; one that is out already, a bank and none stay as they are
+-- a seat's spare once it is taken out of its home; one that is out already, a bank and none are unchanged
 abbrev pub out_of : Spare → Spare
 out_of (Bank k) = Bank k
 out_of (Home k) = Out k
@@ -64,12 +64,12 @@ carried_out (Home k) c = (k, None) ∷ c
 carried_out (Out k) c = c
 carried_out Gone c = c
 
--- the number of the message in a slot, 0 where the slot is empty
+-- the number of the message in a slot, 0 if the slot is empty
 abbrev pub number_in_slot : {B : Type 0} → Option (Envelope B) → ℕ
 number_in_slot None = 0
 number_in_slot (Some e) = e.number
 
--- the number of the message in the first slot that a seat carries, 0 where there is none
+-- the number of the message in the first slot that a seat carries, 0 if there is none
 abbrev pub number_in : {B : Type 0} → List (ℕ × Option (Envelope B)) → ℕ
 number_in [] = 0
 number_in (c ∷ cs) = number_in_slot c.1
@@ -105,7 +105,7 @@ module _ (M : Machine) where
   abbrev pub of_one_moment : ℕ → Known M.Body M.Line M.Target → Type 0
   of_one_moment size k = AreOfOneMoment M size k.views
 
--- what a step tells
+-- what a step says
 abbrev pub Tells : (B L T : Type 0) → Type 1
 Tells B L T = Step (Option (Envelope B)) → Me (Option (Envelope B)) (Known B L T) → ℕ → Me (Option (Envelope B)) (Known B L T) → Type 0
 
@@ -118,7 +118,8 @@ module _ {B L T : Type 0} where
   abbrev pub counted : (ℕ → Known B L T → Known B L T) → Tells B L T
   counted f st m r n = n ≡ (f r m.0, m.1)
 
-  -- The slot of the word that was found is the new spare, empty where the word has no mark. What lies in it is older than what was posted; the look is kept, and with it what was found.
+  -- The slot of the word that was found is the new spare, empty if the word has no mark. Its message is older than the
+  -- one that was posted; the look is kept, and with it what was found.
   abbrev pub posted : Tells B L T
   posted st m r n =
       (y : Option (Envelope B))
@@ -126,13 +127,13 @@ module _ {B L T : Type 0} where
       × IsMarked r y
       × ((k : ℕ) (e : Envelope B) (looks : List (Look B)) (v : View B L T) → m ≡ carrying k (Some e) looks v → IsOlder v e y)
 
-  -- what lay in the mailbox is heard, and is from this node; the look is kept, and with it what was found
+  -- the message in the mailbox is heard, and is from this node; the look is kept, and with it what was found
   abbrev pub taken : ℕ → Tells B L T
   taken from st m r n =
       (y : Option (Envelope B))
       × (n ≡ (known (Out (slot_of r)) (m.0.looks ++ look_at st.word y ∷ []) (on_first (λ v. after_take v y) m.0.views), (slot_of r, y) ∷ [])) × IsFrom from y
 
-  -- where the word that was found has no mark, nothing lay in the mailbox, and this look is kept; else nothing changes
+  -- if the word that was found has no mark, the mailbox was empty, and this look is kept; else nothing changes
   abbrev pub glanced : Tells B L T
   glanced st m r n = (r < full → n ≡ (known m.0.spare (m.0.looks ++ look_at st.word None ∷ []) m.0.views, m.1)) × (full ≤ r → n ≡ m)
 
@@ -144,15 +145,15 @@ module _ {B L T : Type 0} where
   abbrev pub first_part : ℕ → Spare → Known B L T → Known B L T
   first_part c x s = known x s.looks (take c s.views)
 
-  -- the seat that is cut off gets the views behind the first c, and no looks
+  -- the seat that is cut off gets the views after the first c, and no looks
   abbrev pub rest_part : ℕ → Spare → Known B L T → Known B L T
   rest_part c x s = known x [] (drop c s.views)
 
-  -- one seat takes in the views of another, behind its own
+  -- one seat takes in the views of another, after its own
   abbrev pub both : Known B L T → Known B L T → Known B L T
   both s t = known s.spare s.looks (s.views ++ t.views)
 
--- the spare that the dealing seat keeps for its node: the bank's first slot, at home, or none where it has no bank
+-- the spare that the dealing seat keeps for its node: the bank's first slot, at home, or none if it has no bank
 abbrev pub dealt : Spare → Spare
 dealt (Bank k) = Home k
 dealt (Home k) = Gone

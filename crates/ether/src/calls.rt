@@ -1,4 +1,4 @@
-//! The calls of nodes: opening, tick, post, take. None waits, and none takes memory.
+//! The calls of nodes: opening, tick, post, take. None waits, and none allocates.
 ghost use Rattle.std.specs.Prelude.{◌≡◌, ◌<◌, ◌≤◌, ◌++◌, ◌∷◌, [], suc, length, IfOk, IfErr, MatchResult};
 ghost use Rattle.ether.specs.declared.fault.EtherFault.TheVariants.{Spent};
 ghost use Rattle.ether.specs.Passes.{IsHeard, IsOpenPass, IsPass, IsSent, IsUnopened, StaysOpen};
@@ -24,7 +24,7 @@ use std::snapshot::Snapshot;
 use world_views::{Envelope, NodeEvent};
 
 impl<M: Hosted> Ether<M> {
-    /// The pass's first tick: its node is as a start gave it. Answers its ticket.
+    /// The pass's first tick: its node is as a start gave it. Returns its ticket.
     pub fn opening<S: Stable<M::Command>>(
         &self,
         pass: &mut Pass<M::Command, M::Line, M::Target>,
@@ -60,8 +60,8 @@ impl<M: Hosted> Ether<M> {
             .fetch_add::<Opens<W>>(&mut pass.seat, 0, 1)
     }
 
-    /// An event of the pass's node: what it was is for clauses alone. Answers its ticket; `Spent` where
-    /// the pass has made 2^60 ticks.
+    /// An event of the pass's node, which only clauses see. Returns its ticket; `Spent` if the pass has made 2^60
+    /// ticks.
     pub fn tick(
         &self,
         pass: &mut Pass<M::Command, M::Line, M::Target>,
@@ -104,8 +104,8 @@ impl<M: Hosted> Ether<M> {
             .fetch_add::<Ticks<W>>(&mut pass.seat, 0, 1)
     }
 
-    /// Puts a message that the pass's node sent into the mailbox to its addressee. The older message
-    /// that lay there comes back: the node had sent it to the same addressee, who did not take it.
+    /// Puts a message that the pass's node sent into the mailbox to its addressee. An older message that was still
+    /// there comes back: the node had sent it to the same addressee, which did not take it.
     pub fn post(
         &self,
         pass: &mut Pass<M::Command, M::Line, M::Target>,
@@ -123,6 +123,7 @@ impl<M: Hosted> Ether<M> {
         let shared = &self.table.shared;
         let to = envelope.message.to as u64 - 1;
         let word = (pass.node * self.group.size.value() as u64 + to + 1) as usize;
+        // into the slot first: the receiver may read it as soon as the word names it
         let _none = shared.exchange(&mut pass.seat, pass.spare as usize, Some(envelope));
         let found = shared.swap::<Posts>(&mut pass.seat, word, pass.spare + FULL);
         let older = found % FULL;
@@ -133,8 +134,8 @@ impl<M: Hosted> Ether<M> {
         shared.exchange(&mut pass.seat, older as usize, None)
     }
 
-    /// Takes what lies in the mailbox from the node at this place, from 0 on; nothing where nothing
-    /// lies there. It looks once: by one load, and where a message lies there by one swap.
+    /// Takes the message in the mailbox from the node at this place, from 0 on; nothing if it is
+    /// empty. This is one look: one load, and, if there is a message, one swap.
     pub fn take(
         &self,
         pass: &mut Pass<M::Command, M::Line, M::Target>,
@@ -169,6 +170,7 @@ impl<M: Hosted> Ether<M> {
     {
         let shared = &self.table.shared;
         let word = (from * self.group.size.value() as u64 + pass.node + 1) as usize;
+        // most mailboxes are empty, and a load leaves the cache line with the sender
         if shared.load::<Glances>(&mut pass.seat, word) < FULL {
             return None;
         }
@@ -177,8 +179,8 @@ impl<M: Hosted> Ether<M> {
         shared.exchange(&mut pass.seat, pass.spare as usize, None)
     }
 
-    /// Whether nothing lies in the mailbox from the pass's node to the node at this place, from 0 on: what
-    /// was posted there last was taken. It is one load, and a look only where nothing lies there.
+    /// Whether the mailbox from the pass's node to the node at this place, from 0 on, is empty: the last message posted
+    /// there was taken. It is one load, and counts as a look only if the mailbox is empty.
     pub fn is_taken(&self, pass: &mut Pass<M::Command, M::Line, M::Target>, to: u64) -> bool
         requires pass { IsPass self.now pass.old }
         requires to { to < self.now.size }

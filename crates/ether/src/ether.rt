@@ -1,4 +1,4 @@
-//! The ether: one word of tickets, and one word for each ordered pair of nodes, the mailbox from the one to the other.
+//! The ether: one word of tickets, and one word for each ordered pair of nodes, the mailbox from one to the other.
 ghost use Rattle.std.specs.Prelude.{◌≡◌, ◌+◌, ◌*◌, ◌^◌, ◌<◌, ◌∷◌, [], ℕ, length, slice_index, IfOk};
 ghost use Rattle.ether.specs.Passes.{AreNew};
 ghost use Rattle.ether.specs.Rule.{dealer};
@@ -18,9 +18,9 @@ use std::marker::Model;
 use wire_bytes::Copied;
 use world_views::Envelope;
 
-/// What carries messages between the nodes of one process, and gives each event its ticket. It has no
-/// lock: a message is put by one swap of one word, and taken by a load and a swap of one word, a ticket
-/// is drawn by one addition to one word. A take that finds nothing is one load, and changes no word.
+/// What carries messages between the nodes of one process, and gives each event its ticket. It has no lock: a message
+/// is put by one swap of one word, and taken by a load and a swap of one word; a ticket is drawn by one addition to one
+/// word. A take that finds nothing is one load, and changes no word.
 #[derive(Drop)]
 pub struct Ether<M: Hosted> {
     pub(crate) table: Table<
@@ -50,8 +50,8 @@ impl<M: Hosted> Model for Ether<M> {
 }
 
 impl<M: Hosted> Ether<M> {
-    /// An ether for so many nodes, with the setup of the machine that each of them hosts, and a pass for
-    /// each node, node 1's first.
+    /// An ether for a group of this size, with the setup of the machine that each node hosts, and a pass for each node,
+    /// node 1's first.
     pub fn new(
         alloc: Global,
         size: GroupSize,
@@ -78,7 +78,7 @@ impl<M: Hosted> Ether<M> {
         Ok((ether, passes))
     }
 
-    /// The passes of all nodes, of which the first seat stands for all.
+    /// The passes of all nodes; the first seat starts with all of them.
     fn deal(
         &self,
         alloc: Global,

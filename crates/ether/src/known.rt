@@ -1,7 +1,7 @@
 //! What a seat knows.
 use std::marker::{Model, PhantomData};
 
-/// What a seat at the table knows, for the proof alone. No value of it is made.
+/// What a seat at the table knows, for the proof only. No value of it is made.
 pub struct Known<B, L, T> {
     of: PhantomData<(B, L, T)>,
 }

@@ -1,7 +1,6 @@
-//! What carries messages between the nodes of one process, and numbers their events: words that change in single
-//! steps, and no lock.
-//! Stands under node_cells and node_threads.
-//! Between any two steps of any threads the views of all nodes keep the rule of world_views.
+//! What carries messages between the nodes of one process, and numbers their events: words that change in single steps,
+//! and no lock. node_cells and node_threads use it. Between any two steps of any threads the views of all nodes keep
+//! the rule of world_views.
 #![tactic(auto)]
 
 mod calls;

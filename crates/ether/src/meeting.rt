@@ -1,4 +1,4 @@
-//! Passes in one hand: what their nodes did is of one moment.
+//! Passes held together: what their nodes did is of one moment.
 ghost use Rattle.std.specs.Prelude.{◌≡◌};
 ghost use Rattle.ether.specs.Passes.{AllMeet, ArePassesOfAll, IsPass, IsSamePass, view_of};
 ghost use Rattle.ether.specs.Plays.{of_one_moment};
@@ -16,10 +16,9 @@ use std::marker::Brand;
 use world_views::Envelope;
 
 impl<M: Hosted> Ether<M> {
-    /// The one pass borrows what the other knows, and gives it back; both are then as before. What the
-    /// two nodes did is of one moment of one group, and so has all that the laws of such views say: where
-    /// the stores were new at the openings, or held what some list of events leaves, one list of events
-    /// leads to both nodes' states.
+    /// One pass borrows what the other knows, and gives it back; both are then as before. What the two nodes did is of
+    /// one moment of one group, and so has all that the laws of such views say: if the stores were new at the openings,
+    /// or held what some list of events leaves, one list of events leads to both nodes' states.
     pub fn meet(
         &self,
         one: &mut Pass<M::Command, M::Line, M::Target>,
@@ -39,8 +38,8 @@ impl<M: Hosted> Ether<M> {
         shared.join_seat::<Joins>(&mut other.seat, back);
     }
 
-    /// The passes of all nodes, whose use ends with this. What all nodes did is of one moment, so that
-    /// a caller who knows how each was opened knows all that the laws of views say of them.
+    /// The passes of all nodes, whose use ends with this. What all nodes did is of one moment, so that a caller that
+    /// knows how each was opened knows all that the laws of views say about them.
     pub fn meet_all(&self, passes: Vec<Pass<M::Command, M::Line, M::Target>>)
         requires { ArePassesOfAll self.now passes.items }
         ensures { AllMeet (⟦<M as Described>⟧.machine self.now.setup) self.now.size passes.items }

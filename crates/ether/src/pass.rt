@@ -1,4 +1,4 @@
-//! Passes, by which nodes step.
+//! Passes, by which nodes take steps.
 ghost use Rattle.std.specs.Prelude.{◌≡◌, ◌+◌, ◌≤◌, ◌↔◌, IsTrue};
 ghost use Rattle.wire_bytes.specs.Limits.{number_limit};
 
@@ -7,14 +7,13 @@ use atomic_table::Seat;
 use wire_bytes::{LAST_NUMBER, Wire};
 use world_views::Envelope;
 
-/// At most so many ticks a pass.
+/// The most ticks of a pass.
 pub(crate) const MOST_TICKS: u64 = LAST_NUMBER;
 
-/// A mailbox's word is over its slot's number by this, where a message is in the slot. There are fewer
-/// slots.
+/// A mailbox's word exceeds its slot's number by this if a message is in the slot. There are fewer slots than this.
 pub(crate) const FULL: u64 = 64;
 
-/// One node's right to step at an ether. It holds nothing of the node but its place.
+/// One node's right to take steps at an ether. Of the node it has only its place.
 #[derive(Drop)]
 pub struct Pass<B: Wire, L, T> {
     pub(crate) seat: Seat<Option<Envelope<B>>, Known<B, L, T>>,
@@ -31,7 +30,7 @@ impl<B: Wire, L, T> Pass<B, L, T> {
         self.node
     }
 
-    /// Whether it may tick so many times, and once more.
+    /// Whether it may make this many ticks, and one more.
     pub fn has_room(&self, count: u64) -> bool
         ensures { IsTrue result ↔ self.now.ticks + count + 1 ≤ number_limit }
     {

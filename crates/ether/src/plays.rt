@@ -1,4 +1,4 @@
-//! What each kind of step tells. These types are for the proofs alone.
+//! What each kind of step says. These types are for the proofs only.
 ghost use Rattle.ether.specs.Plays.{both, bank_after, counted, dealt, first_part, glanced, met, opens_seat, posted, rest_part, taken};
 ghost use Rattle.ether.specs.Rule.{spent};
 
@@ -8,7 +8,7 @@ use std::marker::{Brand, PhantomData};
 use wire_bytes::Wire;
 use world_views::Envelope;
 
-/// What a step is of, over what seats know. A call at `Brand` picks it.
+/// What a step does, over what seats know. A call at `Brand` picks it.
 pub trait Step<V> {
     ghost use Rattle.std.specs.Prelude.{ℕ};
 
@@ -18,7 +18,7 @@ pub trait Step<V> {
     /// The sender whose mailbox is looked at.
     ghost from: { ℕ };
 
-    /// What is learnt by it, of what the seat knows.
+    /// What is learnt by it about what the seat knows.
     ghost fact: { V → Type 0 };
 }
 
@@ -54,7 +54,7 @@ impl<B: Wire, L, T> Play<Option<Envelope<B>>, Known<B, L, T>> for Posts {
     ghost then = { posted };
 }
 
-/// A load that tells whether a message lies in a mailbox.
+/// A load that shows whether a message is in a mailbox.
 pub(crate) struct Glances;
 
 impl<B: Wire, L, T> Play<Option<Envelope<B>>, Known<B, L, T>> for Glances {

@@ -1,4 +1,4 @@
--- What a folding stands for, after more of an input.
+-- The state of a folding, after more of an input.
 use Rattle.std.proofs.Common.{◌≡◌, ◌≢◌, ℕ, suc, ◌+◌, ◌<◌, ◌≤◌, ◌⊎◌, List, [], ◌∷◌, ◌++◌, length, Option, None, Some, Ok, Err, inr, sym, ap, subst, ◌∙◌, append_assoc, arith}
 use Rattle.std.proofs.lemmas.List.{append-nil, length-append}
 use Rattle.machine_laws.specs.Runs.{History}
@@ -12,12 +12,12 @@ use Rattle.fold_app.specs.declared.fault.FoldFault.TheVariants.{Memory}
 use Rattle.fold_app.specs.declared.feeding.Folding.{Folding}
 use Rattle.fold_app.proofs.Folding.{none_fed, line_goes_on, line_fails, none_ended, fails_on, ends_even, ends_good, ends_bad}
 
--- a machine and its output, after one line more
+-- a machine and its output, after one more line
 abbrev pub Applied : {S M : Type 0} → (M → S → History Request → Type 0) → (S → Answers) → M → List ℕ → (ℕ × Request) → M → List ℕ → Type 0
 Applied {S} {M} stands effects m output x after told =
     (s : S) (earlier : History Request) → stands m s earlier → output ≡ printed (effects s) earlier → stands after s (x ∷ earlier) × (told ≡ printed (effects s) (x ∷ earlier))
 
--- where a line ends that is a body
+-- when a line ends that is a body
 pub line_folded : {S M : Type 0} (stands : M → S → History Request → Type 0) (effects : S → Answers) (m : M) (f : Folding) (end line : List ℕ) (after : M) (g : Folding) (body : Request)
     → HasNoLineFeed end → f.begun.items ++ end ≡ line → judged_line (f.place + 1) line ≡ Ok body
     → Applied stands effects m f.output.items (f.place + 1, body) after g.output.items → g.place ≡ f.place + 1 → g.begun.items ≡ []
@@ -30,14 +30,14 @@ line_folded stands effects m f end line after g body none whole good applied pla
   };
 }
 
--- where a line ends that is bad
+-- when a line ends that is bad
 pub line_bad : {S M : Type 0} (stands : M → S → History Request → Type 0) (effects : S → Answers) (m : M) (f : Folding) (end line : List ℕ) (e : FoldFault)
     → HasNoLineFeed end → f.begun.items ++ end ≡ line → judged_line (f.place + 1) line ≡ Err e → FailsOn stands effects m f (end ++ 10 ∷ []) e
 line_bad stands effects m f end line e none whole bad = record {
   carries = λ first fed h. line_fails fed f.place h.earlier f.begun.items end e h.goes_on none (ap (judged_line (f.place + 1)) whole ∙ bad);
 }
 
--- where nothing more came
+-- when nothing more came
 pub folds_none : {S M : Type 0} (stands : M → S → History Request → Type 0) (effects : S → Answers) (m : M) (f : Folding) → FoldsOn stands effects m f [] m f
 folds_none stands effects m f = record { carries = λ first fed h. subst (λ t. HasFolded stands effects first t m f) (sym (append-nil fed)) h }
 
@@ -58,7 +58,7 @@ fails_more stands effects m f xs n g ys rest all e one two whole = record {
       subst (λ t. Fails t e) same bad;
 }
 
--- where no line ends
+-- when no line ends
 pub folds_open : {S M : Type 0} (stands : M → S → History Request → Type 0) (effects : S → Answers) (m : M) (f : Folding) (rest : List ℕ) (g : Folding)
     → HasNoLineFeed rest → g.place ≡ f.place → g.output.items ≡ f.output.items → g.begun.items ≡ f.begun.items ++ rest → FoldsOn stands effects m f rest m g
 folds_open stands effects m f rest g none place output begun = record {
@@ -69,18 +69,18 @@ folds_open stands effects m f rest g none place output begun = record {
   };
 }
 
--- what is left behind a line
+-- what is left after a line
 pub cut_length : (rest end behind : List ℕ) → rest ≡ end ++ 10 ∷ behind → length behind + 1 ≤ length rest
 cut_length rest end behind e = let h : length rest ≡ length end + suc (length behind) = ap length e ∙ length-append end (10 ∷ behind) in omega (arith, h)
 
--- what is gone with a line
+-- what is done with a line
 pub cut_gone : (gone rest end behind all : List ℕ) → rest ≡ end ++ 10 ∷ behind → gone ++ rest ≡ all → (gone ++ (end ++ 10 ∷ [])) ++ behind ≡ all
 cut_gone gone rest end behind all e whole =
     append_assoc gone (end ++ 10 ∷ []) behind ∙ ap (λ t. gone ++ t) (append_assoc end (10 ∷ []) behind ∙ sym e) ∙ whole
 
 -- At the beginning and at the end
 
--- what a folding stands for that was fed nothing
+-- the state of a folding that was fed nothing
 pub stands_at_first : {S M : Type 0} (stands : M → S → History Request → Type 0) (effects : S → Answers) (m : M) (f : Folding)
     → f.fault ≡ None → f.place ≡ 0 → f.begun.items ≡ [] → f.output.items ≡ [] → StandsFor stands effects m [] m f
 stands_at_first stands effects m f fault place begun output =
@@ -125,7 +125,7 @@ gives_even stands effects m f none empty = record {
       ends_even fed f.place h.earlier (subst (λ t. GoesOn fed f.place h.earlier t) empty h.goes_on) (effects s) ∙ ap (λ t. Ok t) (sym (h.told s b).1);
 }
 
--- what is said of known bytes, said weaker
+-- a weaker statement about known bytes
 pub if_known : {T : Type 0} (known : Option T) (P Q : T → Type 0) → ((x : T) → P x → Q x) → IfSome known P → IfSome known Q
 if_known None P Q f h = tt
 if_known (Some x) P Q f h = f x h

@@ -48,7 +48,7 @@ pair_at (suc k) (high ∷ low ∷ rest) (suc i) d lt le =
     let second : get_or rest (2 * i + 1) 0 ≡ get_or (high ∷ low ∷ rest) (2 * suc i + 1) 0 = ap (λ (k : ℕ). get_or (high ∷ low ∷ rest) k 0) b in
     pair_at k rest i d (omega arith) (omega arith) ∙ (ap (λ (x : ℕ). x ∷ get_or rest (2 * i + 1) 0 ∷ []) first ∙ ap (λ (y : ℕ). get_or (high ∷ low ∷ rest) (2 * suc i) 0 ∷ y ∷ []) second)
 
--- one byte more
+-- one more byte
 pub one_more : (bytes ds : List ℕ) (i v : ℕ) → take i bytes ≡ take i (bytes_of ds) → length ds ≡ 2 * length bytes → i < length bytes
     → v ≡ digit_value (get_or ds (2 * i) 0) * 16 + digit_value (get_or ds (2 * i + 1) 0) → take (i + 1) (set bytes i v) ≡ take (i + 1) (bytes_of ds)
 one_more bytes ds i v same twice lt e =

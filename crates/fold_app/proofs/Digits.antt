@@ -1,4 +1,4 @@
--- What lower-case hex digits spell, and that nothing else spells bytes.
+-- What lower-case hex digits encode, and that nothing else encodes bytes.
 use Rattle.std.proofs.Common.{◌≡◌, ◌≢◌, ℕ, ◌+◌, ◌*◌, ◌/◌, ◌%◌, Bool, true, false, ◌&&◌, List, [], ◌∷◌, length, Some, None, Result, Ok, Err, refl, arith}
 use Rattle.std.specs.Prelude.{if◌then◌else◌, ◌==◌}
 use Rattle.std.specs.List.{list_all}
@@ -68,7 +68,7 @@ hex_by : (s : List ℕ) (b : Bool) → list_all is_lower s ≡ b → list_all is
 hex_by s true e d = odd_by true (length s % 2 == 1) (decode_pairs 0 s) (stops 0 s e d)
 hex_by s false e d = refl
 
--- other bytes spell nothing
+-- other bytes encode nothing
 pub not_digits : (s : List ℕ) → list_all is_digit s ≡ false → hex_bytes s ≡ None
 unfolding hex_bytes
 not_digits s d = hex_by s (list_all is_lower s) refl d
@@ -83,7 +83,7 @@ odd_is n h = grind (arith, nat_tests)
 even_is : (n : ℕ) → n % 2 ≢ 1 → (n % 2 == 1) ≡ false
 even_is n h = grind (arith, nat_tests)
 
--- an odd number of digits spells nothing
+-- an odd number of digits encodes nothing
 pub not_even : (s : List ℕ) → length s % 2 ≡ 1 → hex_bytes s ≡ None
 unfolding hex_bytes
 not_even s h = rw (odd_is (length s) h) (even_by (list_all is_lower s) (Err OddLength) refl)

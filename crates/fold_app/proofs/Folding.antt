@@ -14,7 +14,7 @@ use Rattle.fold_app.proofs.Splitting.{first_ended, first_open}
 no_feed_in_both : (xs ys : List ℕ) → HasNoLineFeed xs → HasNoLineFeed ys → HasNoLineFeed (xs ++ ys)
 no_feed_in_both xs ys h k = list_all-append _ xs ys ∙ and_both _ _ h k
 
--- where nothing was fed, all is to come
+-- if nothing was fed, all is to come
 pub none_fed : GoesOn [] 0 [] []
 unfolding fold_text
 none_fed = record { one_line = refl; same = λ answers more. refl }
@@ -34,7 +34,7 @@ line_and_more fed place earlier begun end was none answers more =
     let lines : lines_of (begun ++ ((end ++ 10 ∷ []) ++ more)) ≡ (begun ++ end) ∷ lines_of more = ap lines_of (cut_out begun end more) ∙ first_ended (begun ++ end) more (no_feed_in_both begun end was.one_line none) in
     ap (λ t. printed_from answers (place + 1) earlier (bodies_of (place + 1) t)) (sym lines) ∙ was.same answers ((end ++ 10 ∷ []) ++ more) ∙ ap (fold_text answers) (sym (append_assoc fed (end ++ 10 ∷ []) more))
 
--- where it is a body
+-- if it is a body
 pub line_goes_on : (fed : List ℕ) (place : ℕ) (earlier : History Request) (begun end : List ℕ) (body : Request)
     → GoesOn fed place earlier begun → HasNoLineFeed end → judged_line (place + 1) (begun ++ end) ≡ Ok body → GoesOn (fed ++ (end ++ 10 ∷ [])) (place + 1) ((place + 1, body) ∷ earlier) []
 line_goes_on fed place earlier begun end body was none good = record {
@@ -44,7 +44,7 @@ line_goes_on fed place earlier begun end body was none good = record {
       ∙ line_and_more fed place earlier begun end was none answers more;
 }
 
--- where it is bad
+-- if it is bad
 pub line_fails : (fed : List ℕ) (place : ℕ) (earlier : History Request) (begun end : List ℕ) (e : FoldFault)
     → GoesOn fed place earlier begun → HasNoLineFeed end → judged_line (place + 1) (begun ++ end) ≡ Err e → Fails (fed ++ (end ++ 10 ∷ [])) e
 line_fails fed place earlier begun end e was none bad = record {
@@ -52,7 +52,7 @@ line_fails fed place earlier begun end e was none bad = record {
       sym (line_and_more fed place earlier begun end was none answers more) ∙ ap (λ t. printed_from answers (place + 1) earlier (put_before t (bodies_of (place + 1 + 1) (lines_of more)))) bad;
 }
 
--- where no line ends
+-- if no line ends
 pub none_ended : (fed : List ℕ) (place : ℕ) (earlier : History Request) (begun rest : List ℕ) → GoesOn fed place earlier begun → HasNoLineFeed rest → GoesOn (fed ++ rest) place earlier (begun ++ rest)
 none_ended fed place earlier begun rest was none = record {
   one_line = no_feed_in_both begun rest was.one_line none;
@@ -65,11 +65,11 @@ none_ended fed place earlier begun rest was none = record {
 pub fails_on : (fed more : List ℕ) (e : FoldFault) → Fails fed e → Fails (fed ++ more) e
 fails_on fed more e was = record { always = λ answers rest. ap (fold_text answers) (append_assoc fed more rest) ∙ was.always answers (more ++ rest) }
 
--- at the end, where no line is begun
+-- at the end, if no line is begun
 pub ends_even : (fed : List ℕ) (place : ℕ) (earlier : History Request) → GoesOn fed place earlier [] → (answers : Answers) → fold_text answers fed ≡ Ok (printed answers earlier)
 ends_even fed place earlier was answers = ap (fold_text answers) (sym (append-nil fed)) ∙ sym (was.same answers [])
 
--- at the end, where a line is begun
+-- at the end, if a line is begun
 ends_in : (fed : List ℕ) (place : ℕ) (earlier : History Request) (begun : List ℕ) → GoesOn fed place earlier begun → 0 < length begun → (answers : Answers)
     → fold_text answers fed ≡ printed_from answers (place + 1) earlier (put_before (judged_line (place + 1) begun) (Ok []))
 ends_in fed place earlier begun was some answers =

@@ -1,4 +1,4 @@
--- Where the first LF stands, as a search of bytes tells it.
+-- The place of the first LF, as a search of bytes finds it.
 use Rattle.std.proofs.Common.{◌≡◌, ℕ, ◌<◌, Bool, true, false, List, length, refl, arith}
 use Rattle.std.specs.Prelude.{◌==◌, nat_lt, position, Option, Some, None}
 use Rattle.std.specs.List.{position_or_len}

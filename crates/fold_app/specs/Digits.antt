@@ -1,4 +1,4 @@
--- Lower-case hex digits, as they are decoded. Nothing here need be believed: `hex_bytes` says what comes of it.
+-- Lower-case hex digits, as they are decoded. Nothing here need be believed: `hex_bytes` gives the result.
 use Rattle.std.specs.Prelude.{ℕ, ◌+◌, ◌-◌, ◌*◌, Bool, ◌&&◌, ◌||◌, if◌then◌else◌, nat_le, List, [], ◌∷◌}
 
 -- 0 to 9 or a to f

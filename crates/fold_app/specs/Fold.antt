@@ -27,21 +27,21 @@ abbrev pub printed : (History Request → ℕ → Request → List (Answer Effec
 printed answers [] = []
 printed answers (x ∷ earlier) = printed answers earlier ++ answer_lines effect_words x.0 (answers earlier x.0 x.1)
 
--- the value of a reading that took all of so many bytes
+-- the value of a reading that took all of this many bytes
 abbrev pub if_whole : {V : Type 0} → ℕ → Result (V × ℕ) WireFault → Option V
 if_whole n (Ok r) = if r.1 == n then Some r.0 else None
 if_whole n (Err e) = None
 
--- the body that bytes spell, nothing before or behind it
+-- the body that bytes encode, with nothing before or after it
 unfoldable pub body_of : List ℕ → Option Request
 body_of bytes = if_whole (length bytes) (body_taken command action bytes)
 
--- the body of line k, or that its bytes spell none
+-- the body of line k, or that its bytes encode none
 abbrev pub or_bad_body : ℕ → Option Request → Result Request FoldFault
 or_bad_body k (Some body) = Ok body
 or_bad_body k None = Err (BadBody k)
 
--- the body that the bytes of line k spell, or what is wrong: the line is no hex, or its bytes spell no body
+-- the body that the bytes of line k encode, or what is wrong: the line is no hex, or its bytes encode no body
 abbrev pub judged_bytes : ℕ → Option (List ℕ) → Result Request FoldFault
 judged_bytes k (Some bytes) = or_bad_body k (body_of bytes)
 judged_bytes k None = Err (BadHex k)
@@ -50,7 +50,7 @@ judged_bytes k None = Err (BadHex k)
 unfoldable pub judged_line : ℕ → List ℕ → Result Request FoldFault
 judged_line k line = judged_bytes k (hex_bytes line)
 
--- a body before those of the lines behind it, or the fault of the first bad one of them all
+-- a body before those of the lines after it, or the fault of the first bad one of them all
 abbrev pub put_before : Result Request FoldFault → Result (List Request) FoldFault → Result (List Request) FoldFault
 put_before (Err e) rest = Err e
 put_before (Ok body) (Ok bodies) = Ok (body ∷ bodies)
@@ -61,15 +61,15 @@ abbrev pub bodies_of : ℕ → List (List ℕ) → Result (List Request) FoldFau
 bodies_of k [] = Ok []
 bodies_of k (line ∷ lines) = put_before (judged_line k line) (bodies_of (k + 1) lines)
 
--- the text of the answers to the bodies that come at the places from this one on, behind an earlier history
+-- the text of the answers to the bodies that come at the places from this one on, after an earlier history
 abbrev pub printed_from : (History Request → ℕ → Request → List (Answer Effect)) → ℕ → History Request → Result (List Request) FoldFault → Result (List ℕ) FoldFault
 printed_from answers place earlier (Ok bodies) = Ok (printed answers (came place bodies earlier))
 printed_from answers place earlier (Err e) = Err e
 
--- the text of the answers to the bodies of an input, where the first stands at place 1 and nothing came before it
+-- the text of the answers to the bodies of an input, if the first is at place 1 and nothing came before it
 unfoldable pub fold_text : (History Request → ℕ → Request → List (Answer Effect)) → List ℕ → Result (List ℕ) FoldFault
 fold_text answers input = printed_from answers 1 [] (bodies_of 1 (lines_of input))
 
--- what a body is answered by buffers that are set up plainly, each request taking effect once
+-- the answers to a body by buffers with the plain setup, each request taking effect once
 unfoldable pub plain_answers : History Request → ℕ → Request → List (Answer Effect)
 plain_answers = answers Client (effects_at plain)

@@ -13,7 +13,7 @@ use request_once::{Answer, Body};
 use std::alloc::{AllocError, Global};
 use wire_bytes::{Wire, WireFault};
 
-/// The body that bytes spell, nothing before or behind it.
+/// The body that bytes encode, with nothing before or after it.
 #[tactic(auto, unfolding(crate::specs::Fold::body_of))]
 fn read_body(alloc: Global, bytes: &[u8]) -> Result<Option<Body<Command, Action>>, AllocError>
     ensures { IfOk result (λ body. body ≡ body_of bytes.now) }
@@ -26,7 +26,7 @@ fn read_body(alloc: Global, bytes: &[u8]) -> Result<Option<Body<Command, Action>
     }
 }
 
-/// The body of a line, which has this number. Its bytes take the place of these.
+/// The body of a line, which has this number. Its bytes replace those in the buffer.
 #[tactic(auto, unfolding(crate::specs::Fold::judged_line))]
 fn read_line(
     bytes: &mut Vec<u8>,
@@ -68,7 +68,8 @@ where
     Ok(())
 }
 
-/// Applies the body of a line at a place, and appends the text of its answers. The line's bytes take the place of these.
+/// Applies the body of a line at a place, and appends the text of its answers. The line's bytes replace those in the
+/// buffer.
 pub fn fold_line<M>(
     machine: &mut M,
     output: &mut Vec<u8>,

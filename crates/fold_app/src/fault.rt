@@ -12,7 +12,7 @@ pub enum FoldFault {
     /// The input could not be read, or not within 100,000,000 reads.
     #[error("Read")]
     Read,
-    /// A line is other than an even number of lower-case hex digits.
+    /// A line is not an even number of lower-case hex digits.
     #[error("line {0}: BadHex")]
     BadHex(u64),
     /// A line's bytes are not exactly one body.
@@ -21,7 +21,7 @@ pub enum FoldFault {
     /// The output could not be written; some of it may have been.
     #[error("Write")]
     Write,
-    /// There was no memory.
+    /// Memory ran out.
     #[error("Memory")]
     Memory,
 }

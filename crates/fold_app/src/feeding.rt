@@ -12,12 +12,12 @@ use machine_laws::Machine;
 use request_once::{Answer, Body};
 use std::alloc::Global;
 
-/// What stands of an input that is folded as it comes.
+/// The state of folding an input as it comes.
 #[derive(Drop)]
 pub struct Folding {
     /// The text of the answers so far.
     output: Vec<u8>,
-    /// One room for the bytes of each line.
+    /// A buffer for the bytes of each line.
     bytes: Vec<u8>,
     /// The bytes of the line that has not ended yet.
     begun: Vec<u8>,
@@ -28,7 +28,7 @@ pub struct Folding {
 }
 
 impl Folding {
-    /// The folding of an input of which nothing came.
+    /// The folding of an input of which nothing has come.
     pub fn new(alloc: Global) -> Folding
         ensures output { result.output.items ≡ [] }
         ensures begun { result.begun.items ≡ [] }
@@ -44,8 +44,7 @@ impl Folding {
         }
     }
 
-    /// Folds what comes next of the input, wherever it was cut. Behind a bad line nothing is
-    /// folded.
+    /// Folds what comes next of the input, wherever it was cut. After a bad line nothing is folded.
     pub fn feed<M>(&mut self, machine: &mut M, piece: &[u8]) -> Result<(), FoldFault>
     where
         M: Machine<Command = Body<Command, Action>, Effect = Answer<Effect>>,
@@ -126,7 +125,7 @@ impl Folding {
         folded
     }
 
-    /// Folds the last line, where it lacks its LF, and gives the text of all answers, or what is
+    /// Folds the last line, if it lacks its LF, and returns the text of all answers, or what is
     /// wrong with the first bad line.
     pub fn finish<M>(mut self, machine: &mut M) -> Result<Vec<u8>, FoldFault>
     where

@@ -16,12 +16,12 @@ use std::alloc::Global;
 use std::io::{Read, Write};
 use whole_input::{MOST_READS, count_within, read_piece, room_for_a_piece};
 
-/// Folds the bodies of an input, as it is read, through buffers that are set up plainly, each
-/// request taking effect once, and writes the text of their answers.
+/// Folds the bodies of an input, as it is read, through buffers with the plain setup, each request
+/// taking effect once, and writes the text of their answers.
 ///
-/// Nothing is written before the last line is folded, and behind a bad line the rest is still
-/// read. When `Read`, `Write` and `Memory` come is no contract's matter: no clause says when a
-/// reader, a writer or an allocation fails.
+/// Nothing is written before the last line is folded, and after a bad line the rest is still read.
+/// No contract says when a reader, a writer or an allocation fails, so none says when `Read`,
+/// `Write` and `Memory` come.
 pub fn fold<R: Read, W: Write>(
     alloc: Global,
     input: &mut R,
@@ -37,7 +37,7 @@ pub fn fold<R: Read, W: Write>(
         IsTooLong (R.remaining input.old)) }
     ensures unwritten { IfErr result (λ e. e ≢ FoldFault.Write → output.new ≡ output.old) }
 {
-    // All is folded before the first byte is written, so that a refusal writes nothing.
+    // all is folded before the first byte is written, so that a failed fold writes nothing
     let text = plain_text(alloc, input)?;
     output.write_all(&text).map_err(|_| FoldFault::Write)?;
     output.flush().map_err(|_| FoldFault::Write)
@@ -60,8 +60,8 @@ fn plain_text<R: Read>(alloc: Global, input: &mut R) -> Result<Vec<u8>, FoldFaul
     fold_reads(alloc, &mut machine, input)
 }
 
-/// The text of the answers of a machine to all bodies of an input, which is folded as it is read.
-/// A bad line is told only once the input was read to its end.
+/// The text of the answers of a machine to all bodies of an input, which is folded as it is read. A
+/// bad line is reported only once the input was read to its end.
 fn fold_reads<M, R: Read>(
     alloc: Global,
     machine: &mut M,

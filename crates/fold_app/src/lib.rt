@@ -1,7 +1,6 @@
-//! Numbered commands, as text, folded into what their clients are shown.
-//! Stands under bouncer_app and buffer_cases.
-//! What `fold` writes is the text of the definitions' answers, for every reader whose bytes a contract can name; a
-//! refusal names the first bad line, and nothing was written.
+//! Numbered commands, as text, folded into what their clients are shown. bouncer_app and buffer_cases use it. What
+//! `fold` writes is the text of the definitions' answers, for every reader whose bytes a contract can name; a fault
+//! names the first bad line, and nothing was written.
 #![tactic(auto)]
 
 mod bodies;

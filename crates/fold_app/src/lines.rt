@@ -1,4 +1,4 @@
-//! The lines of an input, and the bytes that they spell in hex.
+//! The lines of an input, and the bytes that they encode in hex.
 ghost use Rattle.std.specs.Prelude.{◌≡◌, ◌<◌, ◌*◌, ◌%◌, length, if◌then◌else◌, Some, None, IfOk, OnOk, IsTrue, position, MatchOption};
 ghost use Rattle.std.specs.List.{list_all};
 ghost use Rattle.irc_line.specs.Splitting.{is_line_feed, HasNoLineFeed, IsCutAtLineFeed};
@@ -8,7 +8,7 @@ ghost use Rattle.fold_app.specs.Digits.{bytes_of, digit_value, is_digit};
 use memchr::memchr;
 use std::alloc::AllocError;
 
-/// What stands before the first LF, and what follows it.
+/// The part before the first LF, and what follows it.
 pub fn at_line_feed(bytes: &[u8]) -> Option<(&[u8], &[u8])>
     ensures { MatchOption result (HasNoLineFeed bytes.now)
         (λ t. IsCutAtLineFeed bytes.now t.0.now t.1.now) }
@@ -19,7 +19,7 @@ pub fn at_line_feed(bytes: &[u8]) -> Option<(&[u8], &[u8])>
     }
 }
 
-/// Where the first LF stands.
+/// The place of the first LF.
 #[tactic(auto, using(crate::proofs::Searching::first_end))]
 fn line_feed_place(bytes: &[u8]) -> Option<usize>
     ensures { result ≡ position is_line_feed bytes.now }
@@ -27,7 +27,8 @@ fn line_feed_place(bytes: &[u8]) -> Option<usize>
     memchr(b'\n', bytes)
 }
 
-/// Puts the bytes that a line spells in lower-case hex digits in place of these, and tells whether it spells any.
+/// Replaces the bytes in a buffer by those that a line encodes in lower-case hex digits. Returns whether it encodes
+/// any.
 pub fn decode_line(bytes: &mut Vec<u8>, line: &[u8]) -> Result<bool, AllocError>
     ensures { IfOk result (λ is_hex.
         (if is_hex then Some bytes.new.items else None) ≡ hex_bytes line.now) }
@@ -44,7 +45,7 @@ pub fn decode_line(bytes: &mut Vec<u8>, line: &[u8]) -> Result<bool, AllocError>
 fn are_digits(line: &[u8]) -> bool
     ensures { result ≡ list_all is_digit line.now }
 {
-    // No early end: the compiler turns a loop without one into steps of many bytes.
+    // no early exit: the compiler turns a loop without one into steps of many bytes
     let mut all = true;
     for b in line {
         all &= is_a_digit(*b);
@@ -58,7 +59,7 @@ fn is_a_digit(b: u8) -> bool
     (b >= b'0' && b <= b'9') || (b >= b'a' && b <= b'f')
 }
 
-/// Puts the bytes of digits, all of them judged before, in place of these.
+/// Replaces the bytes in a buffer by those of digits, all of them checked before.
 fn decode(bytes: &mut Vec<u8>, digits: &[u8]) -> Result<(), AllocError>
     requires digits { IsTrue (list_all is_digit digits.now) }
     requires even { length digits.now % 2 ≡ 0 }
@@ -75,7 +76,7 @@ fn decode_into(bytes: &mut [u8], digits: &[u8])
     requires twice { length digits.now ≡ 2 * length bytes.old }
     ensures { bytes.new ≡ bytes_of digits.now }
 {
-    // By pairs: so the compiler turns the loop into steps of many bytes.
+    // in pairs, so that the compiler turns the loop into steps of many bytes
     let (pairs, _) = digits.as_chunks::<2>();
     for i in 0..bytes.len() {
         let pair = pairs[i];

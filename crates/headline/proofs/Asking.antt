@@ -8,7 +8,7 @@ use Rattle.world_run.specs.World.{Input, Timeout, Beat, Deliver, Ask, Opened, Cl
 use Rattle.headline.specs.Tower.{tower}
 use Rattle.headline.specs.Promises.{AsksIn, Asks, IsAsked}
 
--- of a kind of bodies that no leader makes
+-- for a kind of bodies that no leader makes
 module _ (s : Settings) (P : TowerBody → Type 0) (not_inner : (c : Claimed) → P (Inner c) → ⊥) where
   asks_in : (x : Input (tower s)) (n : Node TowerBody) (b : TowerBody) → P b → BringsAt (tower s) n x b → AsksIn s P x
   asks_in (Timeout i) n b p h = h

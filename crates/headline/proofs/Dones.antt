@@ -1,4 +1,4 @@
--- That a request is done leaves at most once, and that any other changes nothing.
+-- That a request is done is reported at most once, and any other changes nothing.
 use Rattle.std.proofs.Common.{◌≡◌, ℕ, suc, ◌+◌, ◌≤◌, Bool, true, false, List, [], ◌∷◌, ◌++◌, refl, sym, subst, arith}
 use Rattle.std.specs.Prelude.{if◌then◌else◌}
 use Rattle.machine_laws.specs.Runs.{History, all_effects}

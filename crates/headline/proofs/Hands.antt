@@ -37,7 +37,7 @@ count_hands : (n : ℕ) (es : List TowerEffect) → count (is_hand n) es ≡ cou
 count_hands n [] = refl
 count_hands n (e ∷ es) = omega (arith, count_hands n es, count_cons (is_hand n) e es, count_class n (class_of e) (hands es))
 
--- the same of what leaves for upstream
+-- the same for what leaves for upstream
 count_left : (n : ℕ) (c : Class Parts) (hs : List (ℕ × Parts)) → count (is_number {A = Parts} n) (map (λ h. (h.0.0, h.1)) (handed_by c) ++ hs) ≡ one (hands_number n c) + count (is_number {A = Parts} n) hs
 count_left n (To o) hs = omega arith
 count_left n (Hand id m l) hs = count_cons (is_number {A = Parts} n) (m, l) hs

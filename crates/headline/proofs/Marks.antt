@@ -1,4 +1,4 @@
--- Only a request for it brings a mark, so a mark stands above all that was committed before it was asked.
+-- Only a request for it brings a mark, so a mark is above all that was committed before it was asked for.
 use Rattle.std.proofs.Common.{ℕ, ◌≡◌, List, refl}
 use Rattle.wire_bytes.specs.declared.mark.Mark as mark
 use Rattle.buffer_commands.specs.Settings.{Settings}

@@ -29,7 +29,7 @@ headline_of s size es =
       confirmed = λ k. marks.confirmed_looks s size (take k es);
     }
 
--- what holds anyway holds where a result is there
+-- what holds anyway holds if there is a result
 pub if_any : {V E : Type 0} {P : Type 0} (r : Result V E) → P → IfOk r (λ _. P)
 if_any (Ok v) p = p
 if_any (Err e) p = tt

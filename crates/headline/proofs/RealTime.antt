@@ -1,4 +1,4 @@
--- What was said to be done comes before all that was asked for later.
+-- What was reported as done comes before all that was asked for later.
 use Rattle.std.proofs.Common.{pred, take, true, false, ◌≡◌, ℕ, zero, suc, ◌+◌, ◌<◌, ◌≤◌, Bool, List, [], ◌∷◌, ◌++◌, ◌∙◌, ⊎_elim, Some, length, map, refl, sym, ap, subst, arith}
 use Rattle.std.specs.Prelude.{if◌then◌else◌, slice_get}
 use Rattle.std.proofs.Common.{append_assoc}
@@ -86,7 +86,7 @@ module _ (s : Settings) where
       dones_stay client (claimed_effects s) o n (bodies s size es) in
       omega (arith, holds.no_more (tower s) size es (is_done o n), count_dones o n (all_effects (answers s) (bodies s size es)), all)
 
-  -- what no event asked for so far is agreed later behind all that is agreed so far
+  -- what no event asked for so far is agreed later after all that is agreed so far
   is_behind : (size : ℕ) (early late : List (Event (tower s))) (other : Origin) (m p : ℕ) (e : Entry TowerBody)
       → (IsAsked s (IsRequest other m) early → ⊥) → item (agreed (tower s) size (early ++ late)) p ≡ Some e → IsRequest other m e.body
       → length (agreed (tower s) size early) < p

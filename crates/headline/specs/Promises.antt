@@ -1,4 +1,4 @@
--- What holds of the bouncer over every list of events: requests act once, lines are handed once, confirmed looks are current.
+-- Laws of the bouncer over every list of events: requests act once, lines are handed once, confirmed looks are current.
 use Rattle.std.specs.Prelude.{true, false, ◌≡◌, ◌⊎◌, ◌<◌, ◌≤◌, ◌-◌, ℕ, pred, List, [], ◌∷◌, ◌++◌, length, take, Some, slice_get}
 use Rattle.irc_line.specs.Lines.{Parts}
 use Rattle.wire_bytes.specs.declared.origin.Origin.{Origin}
@@ -29,12 +29,12 @@ IsMark m body = Mark m ≡ body
 abbrev pub IsRequest : Origin → ℕ → TowerBody → Type 0
 IsRequest o n body = is_request o n body ≡ true
 
--- This holds of groups of every size, over every list of events.
+-- This holds for groups of every size, over every list of events.
 abbrev pub OverAll : (s : Settings) → ((s : Settings) → ℕ → List (Event (tower s)) → Type 0) → Type 0
 OverAll s P = (size : ℕ) (es : List (Event (tower s))) → P s size es
 
 module _ (s : Settings) where
-  -- Two lists of bodies come to the same commands of the buffers, session, outgoing lines and claims.
+  -- Two lists of bodies give the same commands of the buffers, session, outgoing lines and claims.
   pub record IsUnchanged (one other : History TowerBody) : Type 0 where
     pub plain : plain one ≡ plain other
     pub session : session one ≡ session other
@@ -53,19 +53,19 @@ module _ (s : Settings) where
   abbrev pub ComesOut : ℕ → List (Event (tower s)) → List (Out (tower s)) → Type 0
   ComesOut size es outs = outs ≡ outputs (tower s) size es
 
-  -- of the requests that take effect no two have the same origin and number
+  -- no two requests that take effect have the same origin and number
   abbrev pub RequestsActOnce : ℕ → List (Event (tower s)) → Type 0
   RequestsActOnce size es = (o : Origin) (n : ℕ) → times o n (fresh (bodies size es)) ≤ 1
 
-  -- Any other request changes nothing: where one stands in the agreed list that is not the next of its origin, the commands of the
-  -- buffers, the session, the outgoing lines and their claims are those of the list without it.
+  -- Any other request changes nothing: if the agreed list has one that is not the next of its origin, the commands of
+  -- the buffers, the session, the outgoing lines and their claims are those of the list without it.
   abbrev pub OthersChangeNothing : ℕ → List (Event (tower s)) → Type 0
   OthersChangeNothing size es =
       (later earlier : History TowerBody) (place : ℕ) (o : Origin) (n at : ℕ) (action : Action) →
       bodies size es ≡ later ++ (place, Asked o n at action) ∷ earlier → stays (fresh earlier) (Asked o n at action) ≡ false →
       IsUnchanged (bodies size es) (later ++ earlier)
 
-  -- and that one is done leaves at most once, of all nodes and all their runs
+  -- and that one is done is reported at most once, by all nodes and all their runs
   abbrev pub DoneOnce : ℕ → List (Event (tower s)) → Type 0
   DoneOnce size es = (o : Origin) (n : ℕ) → count (is_done o n) (left (tower s) size es) ≤ 1
 
@@ -107,7 +107,8 @@ module _ (s : Settings) where
   IsAsked P [] = ⊥
   IsAsked P (e ∷ es) = Asks P e ⊎ IsAsked P es
 
-  -- a mark that no event asked so far: each of its places in what is agreed later is above all that any node has committed
+  -- a mark that no event has asked for so far: each of its places in what is agreed later is above all that any node
+  -- has committed
   abbrev pub MarksAreAbove : ℕ → List (Event (tower s)) → Type 0
   MarksAreAbove size early =
       (late : List (Event (tower s))) (m : mark.Mark) (p : ℕ) (e : Entry TowerBody) →
@@ -121,7 +122,8 @@ module _ (s : Settings) where
       (IsAsked (IsMark m) early → ⊥) → item (moment (tower s) size (early ++ late) j) c ≡ Some n → item (take n.applied n.log) p ≡ Some e → e.body ≡ Mark m →
       (k a : ℕ) → Begins (committed (moment (tower s) size early k) a) (take (pred p) (take n.applied n.log))
 
-  -- a look that is answered at or behind the place of such a mark is the playback of a list that begins with all that any node had committed by then
+  -- a look that is answered at or after the place of such a mark is the playback of a list that begins with all that
+  -- any node had committed by then
   abbrev pub ConfirmedLooks : ℕ → List (Event (tower s)) → Type 0
   ConfirmedLooks size early =
       (late : List (Event (tower s))) (m : mark.Mark) (p : ℕ) (e : Entry TowerBody) (j i from place : ℕ) (target : List ℕ) (lines : List (List ℕ)) →
@@ -131,13 +133,13 @@ module _ (s : Settings) where
       (lines ≡ playback s (history (take place (agreed (tower s) size (early ++ late)))) target)
       × Begins (committed (moment (tower s) size early k) a) (take place (agreed (tower s) size (early ++ late)))
 
-  -- what was said to be done took effect in what is agreed by then
+  -- what was reported as done took effect in what is agreed by then
   abbrev pub DoneIsAgreed : ℕ → List (Event (tower s)) → Type 0
   DoneIsAgreed size es =
       (o : Origin) (n : ℕ) → count (is_done o n) (left (tower s) size es) ≤ times o n (fresh (bodies size es))
 
-  -- A request was said to be done. Another one, that no event asked for by then, stands at some place of what is agreed later: the first one took effect before
-  -- that place.
+  -- A request was reported as done. Another one, that no event asked for by then, is at some place of what is agreed
+  -- later: the first one took effect before that place.
   abbrev pub DoneIsBefore : ℕ → List (Event (tower s)) → Type 0
   DoneIsBefore size early =
       (late : List (Event (tower s))) (o other : Origin) (n m p : ℕ) (e : Entry TowerBody) →
@@ -145,25 +147,26 @@ module _ (s : Settings) where
       item (agreed (tower s) size (early ++ late)) p ≡ Some e → IsRequest other m e.body →
       times o n (fresh (history (take (pred p) (agreed (tower s) size (early ++ late))))) ≡ 1
 
-  -- What holds of the bouncer over these events.
+  -- What holds for the bouncer over these events.
   pub record IsHeadline (size : ℕ) (es : List (Event (tower s))) : Type 0 where
     -- the committed entries of any two nodes at any two moments: one list begins the other
     pub agreed : IsAgreed (tower s) size es
-    -- every look and all that leaves is what the agreed list comes to at its place
+    -- every look and all that leaves follows from the agreed list at its place
     pub faithful : IsFaithful (tower s) size es
-    -- runs of a node have boots of their own, no session id is of two runs
+    -- runs of a node have boots of their own, no session id belongs to two runs
     pub apart : RunsAreApart (tower s) size es
-    -- no numbered request takes effect twice, all else of its origin and number changes nothing, nor is one told twice to be done
+    -- no numbered request takes effect twice, all else of its origin and number changes nothing, nor is one reported
+    -- twice as done
     pub acts_once : RequestsActOnce size es
     pub others_change_nothing : OthersChangeNothing size es
     pub done_once : DoneOnce size es
-    -- what was said to be done is agreed, before all that was asked for later
+    -- what was reported as done is agreed, before all that was asked for later
     pub done_is_agreed : DoneIsAgreed size es
     pub done_is_before : (k : ℕ) → DoneIsBefore size (take k es)
     -- no line is handed upstream twice, and each is the outgoing line of its number
     pub handed_once : HandedOnce size es
     pub outgoing : HandedIsOutgoing size es
-    -- a mark that was not asked before a moment stands above all that was committed by then
+    -- a mark that was not asked for before a moment is above all that was committed by then
     pub marks : (k : ℕ) → MarksAreAbove size (take k es)
     pub applied_marks : (k : ℕ) → AppliedMarks size (take k es)
     pub confirmed : (k : ℕ) → ConfirmedLooks size (take k es)

@@ -12,7 +12,7 @@ use Rattle.bouncer_tower.specs.Hosting.{of_sessions, of_claims, source_of, class
 use Rattle.raft_node.specs.Machine.{Machine}
 use Rattle.raft_node.specs.Hosts.{hosted}
 
--- the bodies that a leader makes, and what the bodies come to
+-- the bodies that a leader makes, and what the bodies result in
 abbrev pub tower : Settings → Machine
 tower s =
     hosted Blank (λ id. of_sessions (Opened id)) (λ id. of_sessions (Shut id))

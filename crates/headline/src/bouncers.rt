@@ -14,8 +14,8 @@ use std::alloc::Global;
 use world_events::Event;
 use world_run::{World, WorldFault};
 
-/// What becomes of the bouncer on so many nodes over new stores by these events, in order, run by the
-/// nodes' own code. A size that no group has is `Refused`.
+/// What the bouncer on a group of this size over new stores becomes by these events, in order, run by the nodes' own
+/// code. A size that no group has is `Refused`.
 ///
 /// Over every list of timeouts, deliveries, losses, repeats, reorderings, requests, upstream lines and
 /// restarts that keep what was saved, the committed entries of any two nodes at any two moments are

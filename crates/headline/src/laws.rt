@@ -15,7 +15,7 @@ ghost use Rattle.headline.specs.Promises.{AppliedMarks, ConfirmedLooks, MarksAre
 use bouncer_tower::Tower;
 use raft_node::Described;
 
-/// The machine of these promises is the one that the code's tower tells of itself.
+/// The machine of these promises is the one that the code's tower describes.
 pub fn the_tower_is_so_described()
     ensures agreed { (s : Settings) (size : ℕ) (es : List (Event (tower s)))
         → AreAgreed s size es (agreed (⟦<Tower as Described>⟧.machine s) size es) }
@@ -23,8 +23,8 @@ pub fn the_tower_is_so_described()
         → ComesOut s size es (outputs (⟦<Tower as Described>⟧.machine s) size es) }
 {}
 
-/// Of the committed entries of any two nodes at any two moments one list begins the other; what was committed is never
-/// taken back, also where all nodes restart in between; each body is blank or was brought by an event.
+/// For the committed entries of any two nodes at any two moments one list begins the other; what was committed is never
+/// taken back, even if all nodes restart in between; each body is blank or was brought by an event.
 pub fn the_nodes_agree()
     ensures one_list { (s : Settings) → all.OverAll (tower s) OneList }
     ensures in_agreed { (s : Settings) → all.OverAll (tower s) InAgreed }
@@ -32,23 +32,24 @@ pub fn the_nodes_agree()
     ensures each_brought { (s : Settings) → all.OverAll (tower s) EachBrought }
 {}
 
-/// A look that is answered at a place is the playback of the first bodies of the agreed list, on every node. What leaves a
-/// node where it applies a place is what the tower answers there to the agreed list, as far as it may leave that node.
+/// A look that is answered at a place is the playback of the first bodies of the agreed list, on every node. What
+/// leaves a node when it applies a place is what the tower answers there to the agreed list, as far as it may leave
+/// that node.
 pub fn playback_is_faithful()
     ensures looks { (s : Settings) → all.OverAll (tower s) LooksAreFaithful }
     ensures applies { (s : Settings) → all.OverAll (tower s) ApplyIsFaithful }
 {}
 
-/// Of one origin and number at most one request takes effect, and that it is done leaves at most once, of all nodes and
-/// all their runs. Any other of that origin and number changes nothing.
+/// At most one request of an origin and number takes effect, and the answer that it is done leaves at most once, of all
+/// nodes and all their runs. Any other of that origin and number changes nothing.
 pub fn requests_act_once()
     ensures effect { (s : Settings) → OverAll s RequestsActOnce }
     ensures others { (s : Settings) → OverAll s OthersChangeNothing }
     ensures done { (s : Settings) → OverAll s DoneOnce }
 {}
 
-/// Requests are linearizable: what was said to be done took effect in what is agreed by then, and before each place of what
-/// no event had asked for by then.
+/// Requests are linearizable: what was reported as done took effect in what is agreed by then, and before each place of
+/// what no event had asked for by then.
 pub fn requests_are_linearizable()
     ensures agreed { (s : Settings) → OverAll s DoneIsAgreed }
     ensures before { (s : Settings) → OverAll s DoneIsBefore }
@@ -61,8 +62,8 @@ pub fn lines_are_handed_once()
     ensures outgoing { (s : Settings) → OverAll s HandedIsOutgoing }
 {}
 
-/// A mark that no event asked for so far stands above all that any node has committed by now. So a node that has applied
-/// it has applied all of that, and so has one that answers a look at its place or behind it.
+/// A mark that no event has asked for so far is above all that any node has committed by now. So a node that has
+/// applied it has applied all of that, and so has one that answers a look at its place or after it.
 pub fn confirmed_looks_are_current()
     ensures above { (s : Settings) → OverAll s MarksAreAbove }
     ensures applied { (s : Settings) → OverAll s AppliedMarks }

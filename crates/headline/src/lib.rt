@@ -1,7 +1,6 @@
-//! What holds of the bouncer, replicated over a group of nodes, over every list of timeouts, deliveries, losses,
-//! repeats, reorderings, requests, upstream lines, restarts and stops.
-//! Stands under world_app.
-//! The nodes agree, playback is faithful, requests act once, lines are handed once, and confirmed looks are current.
+//! Laws of the bouncer, replicated over a group of nodes, over every list of timeouts, deliveries, losses, repeats,
+//! reorderings, requests, upstream lines, restarts and stops. world_app uses it. The nodes agree, playback is faithful,
+//! requests act once, lines are handed once, and confirmed looks are current.
 #![tactic(auto)]
 
 mod bouncers;

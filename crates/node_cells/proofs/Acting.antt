@@ -1,4 +1,4 @@
--- What a step of a node is to its cell, by what it answers.
+-- A step of a node at its cell, by its answer.
 use Rattle.std.proofs.Common.{◌≡◌, ℕ, zero, suc, List, [], arith, ⊎_elim, Some, None, Result, Err, refl, sym, ap, ◌∙◌, subst}
 use Rattle.node_steps.specs.declared.refusal.Refusal.{Refusal}
 use Rattle.raft_log.specs.declared.message.Message.{Message}

@@ -30,7 +30,7 @@ use Rattle.node_cells.proofs.Showing.{does_out, does_state}
 use Rattle.node_cells.proofs.Terms.{Tells, longer_tells}
 
 module _ {B : Type 0} where
-  -- A node that leads appended, and leads on: nothing was sent, and what it knows of a leader is as it was.
+  -- A node that leads appended, and still leads: nothing was sent, and what it knows of a leader is unchanged.
   pub record Appended (s t : Node B) : Type 0 where
     pub sent : t.sent ≡ s.sent
     pub boot : t.boot ≡ s.boot
@@ -39,7 +39,7 @@ module _ {B : Type 0} where
     pub more : List (Entry B)
     pub log : t.log ≡ s.log ++ more
 
-  -- its log is told from the one before by its terms
+  -- its log differs from the one before in its terms
   pub tells_more : (log more : List (Entry B)) → Tells log (log ++ more)
   tells_more log [] h = append-nil log
   tells_more log (e ∷ es) h = longer_tells log e es h

@@ -16,7 +16,7 @@ module _ {A : Type 0} where
   first_copy r [] copies x some is h = absurd (omega (arith, some))
   first_copy r (y ∷ xs) copies x some is h = λ on. ap first_in (h on) ∙ ap Some (sym is)
 
-  -- where nothing came, nothing was there
+  -- if nothing came, nothing was there
   pub none_left : (P : A → Type 0) (o : Option A) (n m : ℕ) → MatchOption o ((n ≡ 0) × (m ≡ 0)) P → o ≡ None → n ≡ 0
   none_left P None n m h e = h.0
   none_left P (Some x) n m h e = absurd (cc e)

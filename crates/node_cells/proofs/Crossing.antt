@@ -1,4 +1,4 @@
--- The cell of a node may go to any thread, as its parts may: what clauses alone see of an input owns nothing.
+-- The cell of a node may go to any thread, as its parts may: the part of an input that only clauses see owns nothing.
 use denote.Builtin as builtin
 use denote.Enum.Declared.{shape}
 use denote.Enum.Enum as enum

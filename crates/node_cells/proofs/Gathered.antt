@@ -18,14 +18,14 @@ use Rattle.node_cells.specs.Openings.{IsClosed}
 use Rattle.node_cells.specs.Turns.{CellOf}
 use Rattle.node_cells.specs.Unopened.{IsEmptyRecord, IsNextUnopened, IsUntouched, UnopenedParts}
 
--- what stands at a place stands there in the list without its last item, or is that item
+-- an item at a place is there in the list without its last item, or is that item
 at_end : {A : Type 0} (xs : List A) (x y : A) (i : ℕ) → IsAt (xs ++ x ∷ []) i y → IsAt xs i y ⊎ ((i ≡ length xs) × (x ≡ y))
 at_end [] x y zero e = inr (refl, some-injective x y e)
 at_end [] x y (suc i) e = absurd (some-ne-none y (sym e))
 at_end (z ∷ xs) x y zero e = inl e
 at_end (z ∷ xs) x y (suc i) e = ⊎_elim inl (λ t. inr (ap suc t.0, t.1)) (at_end xs x y i e)
 
--- what holds of the items of two lists at each place, and of one more of each, holds of all
+-- what holds for the items of two lists at each place, and for one more of each, holds for all
 ends_alike : {V R : Type 0} (vs : List V) (rs : List R) → length rs ≡ length vs → (P : ℕ → V → R → Type 0)
     → ((i : ℕ) (v : V) (r : R) → IsAt vs i v → IsAt rs i r → P i v r) → (v' : V) (r' : R) → P (length vs) v' r'
     → (i : ℕ) (v : V) (r : R) → IsAt (vs ++ v' ∷ []) i v → IsAt (rs ++ r' ∷ []) i r → P i v r
@@ -48,7 +48,7 @@ map_end f [] x = refl
 map_end f (y ∷ xs) x = ap (λ l. f y ∷ l) (map_end f xs x)
 
 module _ {Setup B L T : Type 0} where
-  -- the passes are as many as the views
+  -- there are as many passes as views
   pub as_many : (e : EtherParts Setup) (recording : Recording) (ps : List (Pass B L T)) (d : ClosingParts Setup B L T) → record { ether = e; recording = recording; views = map view_of ps } ≡ d → length ps ≡ length d.views
   as_many e recording ps d is = sym (length-map ps view_of) ∙ ap (λ (z : ClosingParts Setup B L T). length z.views) is
 
@@ -56,7 +56,7 @@ module _ {Setup B L T : Type 0} where
   has_room e recording ps d is few = omega (arith, as_many e recording ps d is, ap (λ (z : ClosingParts Setup B L T). z.ether.size) is, few)
 
 module _ (M : Machine) {Setup : Type 0} (e : EtherParts Setup) (recording : Recording) (ps : List (Pass M.Body M.Line M.Target)) (rs : List (RecordOf M)) where
-  -- a pass and a record more, of the next node
+  -- one more pass and record, of the next node
   one_more : (p : Pass M.Body M.Line M.Target) (r : RecordOf M) → IsClosing M e recording ps rs → IsPass e p → p.node ≡ length ps → IsLeftBy M recording (length (map view_of ps)) (view_of p) r
       → IsClosing M e recording (ps ++ p ∷ []) (rs ++ r ∷ [])
   one_more p r h pass node last =
@@ -99,7 +99,7 @@ module _ (M : Machine) where
   no_turns On size node = record { turns_are = refl; outs_are = λ honest. refl }
   no_turns Off size node = refl
 
-  -- one more node's pass and record, where the node was never opened
+  -- one more node's pass and record, if the node was never opened
   pub unopened_next : {Setup U : Type 0} (e : EtherParts Setup) (recording : Recording) (ps : List (Pass M.Body M.Line M.Target)) (rs : List (RecordOf M)) (d : ClosingParts Setup M.Body M.Line M.Target)
       (u : UnopenedParts Setup M.Body M.Line M.Target U) (p : Pass M.Body M.Line M.Target) (r : RecordOf M)
       → record { ether = e; recording = recording; views = map view_of ps } ≡ d → IsClosing M e recording ps rs → IsNextUnopened d u → p ≡ u.pass → IsUntouched u.ether p

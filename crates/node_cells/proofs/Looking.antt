@@ -55,7 +55,7 @@ module _ (M : Machine) {Setup Hosted Store U : Type 0} (k : Keeper Store M.Body)
           applied = λ honest. at.1 ∙ ap (λ (s : Node M.Body). s.applied) (is_up M k (cell_of b0 q u p r line) h up honest);
         }
 
-  -- a look that found no memory
+  -- a look for which memory ran out
   pub no_memory : (from : ℕ) (target : M.Target) (q : Inner M Setup Hosted Store) (cause : Cause) → q.down ≡ None
       → (let result : Result (PlayedAt M.Played) NodeFault = Err (Down cause) in IsLooked M from target q result) → cause ≡ NoMemory
   no_memory from target q cause up h =

@@ -93,7 +93,7 @@ module _ {B L T : Type 0} where
   older_given v e None h = tt
   older_given v e (Some old) h = ((h.0, h.2), h.1)
 
-  -- one post more, behind which these came back
+  -- one more post, after which these came back
   pub gives_more : (v : View B L T) (to : ℕ) (more : List ℕ) (o : Option (Envelope B)) (es : List (Envelope B)) → MayGiveBack v to o → GaveBack v more es
       → GaveBack v (to ∷ more) (option_to_list o ++ es)
   gives_more v to more None [] may h = tt
@@ -122,7 +122,7 @@ module _ {B L T : Type 0} where
   gave_behind v posted (to ∷ tos) (e ∷ es) (inl h) = inl (h.0, gave_behind v posted tos es h.1)
   gave_behind v posted (to ∷ tos) (e ∷ es) (inr h) = inr (gave_behind v posted tos (e ∷ es) h)
 
-  -- what came back so far, behind which what the further posts give back may come
+  -- what came back so far, after which what the further posts give back may come
   pub record Giving (v : View B L T) (all rest : List (Message B)) (olds : List (Envelope B)) : Type 0 where
     pub gives : (es : List (Envelope B)) → GaveBack v (map to_of rest) es → GaveBack v (map to_of all) (olds ++ es)
 
@@ -167,7 +167,7 @@ module _ (M : Machine) where
   restarts_more (x ∷ xs) t h = (h.0, restarts_more xs t h.1)
 
 module _ (M : Machine) {Setup : Type 0} where
-  -- between two restarts: so many are noted
+  -- between two restarts: this many are noted
   pub record Restarting (b0 b : Book M Setup) (done : ℕ) : Type 0 where
     pub noted_all : HasRestarts M b0 done b
     pub room : b.room + room_for b0.recording done ≡ b0.room

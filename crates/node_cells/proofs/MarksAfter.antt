@@ -106,7 +106,7 @@ module _ (M : Machine) (marked : M.Body → Option Mark) where
         reached_is = λ honest. stop_reaches v.size (suc v.node) v.state x after;
       }
 
-  -- inputs that were saved together are done but for the last, in which the run ends
+  -- inputs that were saved together are done except the last, in which the run ends
   stops_begin : (inputs : List (NodeInput M.Body M.Line)) (answers : List Answer) (turns : List (NotedOf M)) (v : ViewOf M) → (v.honest ≡ true → IsSound v.size v.state) → 1 ≤ length inputs
       → length answers ≡ length inputs → AreNoted M (stops_after inputs answers) turns → Known (after_turns M v (map (turn_in M) turns)) 0 None
   stops_begin [] answers turns v sound some many are = absurd (omega (arith, some))
@@ -152,14 +152,14 @@ module _ (M : Machine) (marked : M.Body → Option Mark) where
       more_keep (after_event M v t.0 t.1) turns are.1
       (subst (λ (e : EventOf M). Known (after_event M v t.0 e) 0 None) (sym are.0) (restarted_keeps v t.0 0 None h))
 
-  -- what a restart publishes, and a Restart more for each start that failed
+  -- what a restart publishes, and one more Restart for each start that failed
   pub restart_begins : (p : Phase M.Body M.Line M.Target) (same : Bool) (first : List (NotedOf M)) (more : List (TurnOf M)) (v : ViewOf M) (asked : ℕ) (reached : Option ℕ) → Known v asked reached
       → AreTogether p → AreNoted M (firsts_of p same) first → AreRestarts more → Known (after_turns M v (map (turn_in M) first ++ more)) 0 None
   restart_begins p same first more v asked reached h together are restarts =
       subst (λ (w : ViewOf M). Known w 0 None) (sym (turns-append M v (map (turn_in M) first) more))
       (more_keep (after_turns M v (map (turn_in M) first)) more restarts (firsts_begin p same first v asked reached h together are))
 
-  -- ---- inputs that are done together
+  -- -- inputs that are processed together
 
   no_place : (a : Answer) (i : ℕ) (s : Node M.Body) (e : Entry M.Body) → out_of M a ≡ (applied M i s (Some e)).out → ⊥
   no_place (Ok done) i s e is = absurd (cc is)

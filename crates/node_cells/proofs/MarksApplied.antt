@@ -17,7 +17,7 @@ or_false : (t : Bool) → t ≡ (t || false)
 or_false true = refl
 or_false false = refl
 
--- the larger of two is at least this where one of them is
+-- the larger of two is at least this if one of them is
 pub larger_reaches : (n a b : ℕ) → leb n (larger a b) ≡ (leb n a || leb n b)
 larger_reaches n a b =
     cond_both (ltb a b) b a (λ (m : ℕ). leb n m ≡ (leb n a || leb n b))
@@ -41,7 +41,7 @@ with_number_reaches : (n m : ℕ) (reached : Option ℕ) → leb n (with_number 
 with_number_reaches n m None = refl
 with_number_reaches n m (Some most) = larger_reaches n most m
 
--- the greatest number, once this was applied
+-- the greatest number, after this was applied
 pub with_mark_reaches : (node boot n : ℕ) (o : Option Mark) (reached : Option ℕ) → is_reached (with_mark node boot o reached) n ≡ (is_reached reached n || is_own node boot n o)
 with_mark_reaches node boot n None reached = or_false (is_reached reached n)
 with_mark_reaches node boot n (Some m) reached =
@@ -80,7 +80,7 @@ module _ (M : Machine) (marked : M.Body → Option Mark) (size i : ℕ) (s : Nod
   lives : Lives s
   lives = record { of = sound.2 }
 
-  -- what was applied stays, where nothing is applied
+  -- what was applied stays, if nothing is applied
   goes_on : (a : Act M) → Fares s (turn M size i a s).node → Reaches marked i reached (turn M size i a s).node
   goes_on a f n =
       let t : Node M.Body = (turn M size i a s).node in
@@ -116,7 +116,7 @@ module _ (M : Machine) (marked : M.Body → Option Mark) (size i : ℕ) (s : Nod
     pub turn_reaches : Reaches marked i (reached_after marked i before q reached) t
     turn_reaches = by_step (turn_step M size i s lives a)
 
-  -- a turn of which no place comes out
+  -- a turn that applies no place
   by_quiet_step : (a : Act M) → ((e : Entry M.Body) → (turn M size i a s).out ≡ (applied M i s (Some e)).out → ⊥) → Turned M i s (turn M size i a s) → Reaches marked i reached (turn M size i a s).node
   by_quiet_step a none (GoesOn f out) = goes_on a f
   by_quiet_step a none (Applied e lt at is) = absurd (none e (ap (λ (u : Turn M). u.out) is))

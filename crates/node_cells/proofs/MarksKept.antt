@@ -41,7 +41,7 @@ module _ (M : Machine) (marked : M.Body → Option Mark) where
     pub same_keeps : w ≡ v → Known M marked w asked reached
     same_keeps is = subst (λ (z : ViewOf M). Known M marked z asked reached) (sym is) h
 
-    -- a turn that was done: the state before it, and behind it
+    -- a turn that was done: the state before it, and after it
     pub turn_keeps : (t n k : ℕ) (x : NodeInput M.Body M.Line) → w ≡ posts_from (after_event M v t (Does x)) n k → (p q : NodeState M.Body) (node asked' : ℕ)
         → (v.honest ≡ true → IsIn p v.state) → (w.honest ≡ true → IsIn q w.state) → node ≡ suc w.node → asked' ≡ larger asked (asks marked x)
         → Known M marked w asked' (reached_after marked node p.standing.applied q reached)
@@ -81,7 +81,7 @@ module _ (M : Machine) (marked : M.Body → Option Mark) where
     taken_keeps came is = subst (λ (z : ViewOf M). Known M marked z asked reached) (sym is) (take_keeps M marked v came asked reached h)
 
   module _ {Setup Hosted Store U : Type 0} (c d : CellOf M Setup Hosted Store U) (asked : ℕ) (reached : Option ℕ) (h : Known M marked (view_in c) asked reached) where
-    -- inputs that were done together
+    -- inputs that were processed together
     pub turns_keep : (inputs : List (NodeInput M.Body M.Line)) (answers : List Answer) → AreTurned M c inputs answers d → Known M marked (view_in d) (asked_by_all marked asked inputs) reached
     turns_keep inputs answers is =
         subst (λ (v : ViewOf M). Known M marked v (asked_by_all marked asked inputs) reached) (sym is.view)

@@ -155,7 +155,7 @@ module _ (M : Machine) where
               (subst (λ (r : Recording). b2.room + room_for r (length fs) ≡ b1.room) h.recording k.room);
         }
 
-    -- as many turns more
+    -- as many more turns
     pub noted_turns : (b d : Book M Setup) (es : List (EventOf M × Answer)) → HasNotedAll M b es d → length (view_of d.pass).turns ≡ length (view_of b.pass).turns + length es
     noted_turns b d es h =
         ap (λ (v : ViewOf M). length v.turns) h.view ∙ turns_length M (view_of b.pass) (map (turn_in M) h.first)

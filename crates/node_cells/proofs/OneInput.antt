@@ -18,7 +18,7 @@ use Rattle.node_cells.specs.Upstreams.{HandsOut, Tally}
 use Rattle.node_cells.proofs.Noting.{out_by}
 
 module _ (M : Machine) where
-  -- nothing leaves by an answer
+  -- an answer has no effects
   none_by : (a : Answer) → effects_of (told.out_of M (outcome_by a)) ≡ []
   none_by (Ok done) = refl
   none_by (Err refusal) = refl

@@ -46,7 +46,7 @@ module _ {B L T : Type 0} where
       record { size = refl; node = refl; honest = refl; state = refl; heard = λ o h m is. let r = h m is in (r.0, at_longer v.heard (e ∷ []) r.0 m r.1) }
 
 module _ {Setup B L T E P : Type 0} where
-  -- whether there is room or not, the book is the same but for the room
+  -- whether there is room or not, the book is the same except for the room
   pub same_but : (old new : BookParts Setup B L T E P) (count : ℕ) (r : Result (Unit {0}) CellFault) → MatchResult r (λ _. HasRoom old count new) (λ e. HasNoRoom old count e new) → IsSameBut old new
   same_but old new count (Ok done) h = h.same
   same_but old new count (Err Memory) h = h.0

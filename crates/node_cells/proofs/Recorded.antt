@@ -18,7 +18,7 @@ use Rattle.node_cells.specs.declared.record.Recording.TheVariants.{On, Off}
 use Rattle.node_cells.specs.Books.{AreOfBook, BookParts, IsRecordBy, NotedOf, OutcomeOf, noted, out_in, recorded_by, room_for, turn_in}
 use Rattle.node_cells.specs.Posts.{posts_from}
 
--- what is recorded of nothing, and of two lists, one behind the other
+-- what is recorded of nothing, and of two lists, one after the other
 pub recorded-nil : {A : Type 0} (r : Recording) → recorded_by r (let none : List A = [] in none) ≡ []
 recorded-nil On = refl
 recorded-nil Off = refl
@@ -27,7 +27,7 @@ pub recorded-append : {A : Type 0} (r : Recording) (xs ys : List A) → recorded
 recorded-append On xs ys = refl
 recorded-append Off xs ys = refl
 
--- a record to which nothing was added, where turns are not recorded
+-- a record to which nothing was added, if turns are not recorded
 pub recorded_off : {A : Type 0} (r : Recording) (xs ys : List A) → r ≡ Off → xs ≡ xs ++ recorded_by r ys
 recorded_off On xs ys off = absurd (cc off)
 recorded_off Off xs ys off = sym (append-nil xs)
@@ -44,12 +44,12 @@ room_taken {A} On xs ys x few many capacity same f m s is enough =
 room_taken {A} Off xs ys x few many capacity same f m s is enough =
     let long : length ys ≡ length xs = ap (λ (l : List A). length l) (is ∙ append-nil xs) in omega (arith, f, m, s, long)
 
--- no turn wants no room
+-- no turn needs no room
 pub room-none : (r : Recording) (room : ℕ) → room + room_for r 0 ≡ room
 room-none On room = omega arith
 room-none Off room = omega arith
 
--- one turn more was recorded
+-- one more turn was recorded
 pub room-more : (r : Recording) (done room0 room1 room2 : ℕ) → room1 + room_for r done ≡ room0 → room2 + room_for r 1 ≡ room1 → room2 + room_for r (done + 1) ≡ room0
 room-more On done room0 room1 room2 before one = omega (arith, before, one)
 room-more Off done room0 room1 room2 before one = omega (arith, before, one)
@@ -59,7 +59,7 @@ pub room-left : (r : Recording) (done count room0 room1 : ℕ) → room1 + room_
 room-left On done count room0 room1 before more enough = omega (arith, before, more, enough)
 room-left Off done count room0 room1 before more enough = omega arith
 
--- where there is room for these turns and one more, there is room for one
+-- if there is room for these turns and one more, there is room for one
 pub room-one : (r : Recording) (count room : ℕ) → room_for r (count + 1) ≤ room → room_for r 1 ≤ room
 room-one On count room enough = omega (arith, enough)
 room-one Off count room enough = omega arith
@@ -78,7 +78,7 @@ module _ (M : Machine) where
   outs-append n i s [] ys = refl
   outs-append n i s (t ∷ xs) ys = ap (λ (l : List (Out M)). own_out M n i s t.1 ∷ l) (outs-append n i (own_state M n i s t.1) xs ys)
 
-  -- an event, recorded with what comes out of it where turns are recorded
+  -- an event, recorded with what comes out of it if turns are recorded
   record_event : (r : Recording) (v : ViewOf M) (turns : List (NotedOf M)) (t : ℕ) (e : EventOf M) (o : OutcomeOf M) → IsOpened v → v.state ≡ runs M v (start v) v.turns → IsRecordBy M r v turns
       → (v.honest ≡ true → out_of M o ≡ own_out M v.size (suc v.node) v.state e) → IsRecordBy M r (after_event M v t e) (turns ++ recorded_by r (noted M t e o ∷ []))
   record_event Off v turns t e o opened state h out = ap (λ (l : List (NotedOf M)). l ++ []) h
@@ -137,7 +137,7 @@ module _ (M : Machine) where
   kept_take r v (Some e) turns h = kept_heard r v (v.heard ++ e ∷ []) turns h
 
 module _ {B L T : Type 0} where
-  -- posts change nothing of a view but what was posted
+  -- posts change nothing of a view except what was posted
   pub posts_are : (v : View B L T) (n k : ℕ) → posts_from v n k ≡ record v { posted = (posts_from v n k).posted }
   posts_are v n zero = refl
   posts_are v n (suc k) = posts_are (after_post v (suc n)) (suc n) k

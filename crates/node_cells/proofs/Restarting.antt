@@ -36,7 +36,7 @@ module _ {B : Type 0} where
   up_by : Saved B → ℕ → Saved B
   up_by v r = record v { boot = v.boot + r }
 
-  -- where what was saved is the old but for the boots
+  -- if what was saved is the old except for the boots
   stands_as : (v w : Saved B) (r : ℕ) → w.term ≡ v.term → w.vote ≡ v.vote → w.log ≡ v.log → w.boot ≡ v.boot + r → up_by v r ≡ w
   unfolding up_by
   stands_as v w r term vote log boot = λ d. record { boot = sym boot d; term = sym term d; vote = sym vote d; log = sym log d }
@@ -109,7 +109,7 @@ module _ (M : Machine) where
       ∙ after_run n i s' (y ∷ xs) answers first one.leads appends.1 (omega arith) (let e : suc (length answers) ≡ suc (length (y ∷ xs)) = many in omega (arith, e)) h.2
       ∙ ap (λ (l : List (Message M.Body)). begins_at n (saved_by (after_inputs M n i s' (y ∷ xs))) l) one.sent
 
--- of what stood, the run that is left begins with this; the memory had the same boot
+-- the run that is left begins with this, given what was saved; the memory had the same boot
 record Starts {B : Type 0} (n : ℕ) (first : Node B) (sent : List (Message B)) (boot : ℕ) (v : Saved B) (r : ℕ) : Type 0 where
   k : Saved B
   is : first ≡ begins_at n k sent
@@ -117,7 +117,8 @@ record Starts {B : Type 0} (n : ℕ) (first : Node B) (sent : List (Message B)) 
   from : k.boot ≡ boot
 
 module _ (M : Machine) {Setup Hosted Store U : Type 0} (k : Keeper Store M.Body) where
-  -- The node of a cell that was down, or up, began its next run with what stood, v. Whether v has the terms of its memory is told.
+  -- The node of a cell that was down, or up, began its next run with what was saved, v. It is known whether v has the
+  -- terms of its memory.
   module _ (c : CellOf M Setup Hosted Store U) (h : IsCell M k c) (sure : (s : Store) (w : Saved M.Body) → Serves (k.condition s) → k.may_stand s w ↔ (w ≡ k.saved s))
       (holds : c.node.down ≡ None → Holds k c.node.store c.node.state) (honest : (view_in c).honest ≡ true) where
     abbrev s : Node M.Body
@@ -132,7 +133,7 @@ module _ (M : Machine) {Setup Hosted Store U : Type 0} (k : Keeper Store M.Body)
     is_honest : IsHonest (k.condition c.node.store)
     is_honest = sym h.honest ∙ honest
 
-    -- what may stand in the store of a node that is up is what is saved of it
+    -- what the store of a node that is up may hold is what is saved of it
     pub up_stands : c.node.down ≡ None → IsIn c.node.state s → Stands k c.node.store 0 (saved_by s)
     up_stands up here w stands =
         let held = holds up is_honest in
@@ -157,7 +158,7 @@ module _ (M : Machine) {Setup Hosted Store U : Type 0} (k : Keeper Store M.Body)
     abbrev StartsAt : List (NotedOf M) → Saved M.Body → Type 0
     StartsAt first v = Starts n (run M n i s (map (turn_in M) first)) s.sent c.node.state.standing.boot v c.refused
 
-    -- what was saved before the turn, where the store has the terms of the memory
+    -- what was saved before the turn, if the store has the terms of the memory
     as_before : IsIn c.node.state s → (x : NodeInput M.Body M.Line) (v : Saved M.Body) → (c.node.state.standing.term ≡ v.term) × (c.node.state.standing.vote ≡ v.vote) × (terms_of c.node.state.log ≡ terms_of v.log)
         → IsLater c.refused (saved_by s) v ⊎ IsLater c.refused (saved_by (after_input M n i s x)) v → IsLater c.refused (saved_by s) v
     as_before here x v told (inl l) = l
@@ -254,7 +255,7 @@ module _ (M : Machine) {Setup Hosted Store U : Type 0} (k : Keeper Store M.Body)
           from = (all_append M n i inputs.items s shows.2 all.2).boot ∙ sym (ap (λ (z : Node M.Body). z.boot) shows.0);
         }
 
-    -- After the first events, and so many restarts more as runs were begun besides, the view's state is the node's.
+    -- After the first events, and one more restart for each further run that was begun, the view's state is the node's.
     pub restart_shows : (q : Inner M Setup Hosted Store) (same : Bool) (first : List (NotedOf M)) (ts : List (TurnOf M)) → (b : Begins (size_of c.node.state) (MayHaveStood k c.node.store) q.state)
         → AreNoted M (firsts_of c.phase same) first → AreRestarts ts → length ts ≡ min (q.state.standing.boot - c.node.state.standing.boot - 1) c.refused → Told same b.0
         → (let t : Node M.Body = run M n i s (map (turn_in M) first ++ ts) in IsIn q.state t × (t.sent ≡ s.sent))

@@ -28,8 +28,8 @@ pub none_known : (n : ℕ) (o : Option ℕ) → o ≡ None → (leader : ℕ) �
 none_known n o e leader h = absurd (let z : None ≡ Some leader = sym e ∙ h in cc z)
 
 module _ {B : Type 0} (i n : ℕ) (low : 1 ≤ n) where
-  -- A node did something in its run: what it sent goes to nodes of the group, a leader that it knows is one of them, and its log is told from the one
-  -- before by its terms.
+  -- A node did something in its run: what it sent goes to nodes of the group, a leader that it knows is one of them,
+  -- and its log differs from the one before in its terms.
   pub record Acted (s t : Node B) : Type 0 where
     pub more : List (Message B)
     pub is : t.sent ≡ s.sent ++ more

@@ -1,4 +1,4 @@
--- What a step of a cell's node is to the cell's view.
+-- A step of a cell's node, at the cell's view.
 use Rattle.std.proofs.Common.{◌≡◌, ℕ, suc, ◌+◌, ◌≤◌, inl, inr, ⊎_elim, true, false, List, [], ◌∷◌, ◌++◌, length, Option, Some, refl, sym, ap, ◌∙◌, subst, arith, append-nil, append_assoc, length-append}
 use Rattle.std.specs.Prelude.{slice_get}
 use Rattle.raft_log.specs.declared.message.Message.{Message}
@@ -33,7 +33,7 @@ found_last (x ∷ xs) m ms = found_last xs m ms
 one_more : (k : ℕ) → k + 1 ≡ suc k
 one_more k = omega arith
 
--- what a step sends stands behind what was sent before
+-- what a step sends comes after what was sent before
 pub stand_behind : {B : Type 0} (xs ms : List (Message B)) → StandFrom (xs ++ ms) (length xs) ms
 stand_behind xs [] = tt
 stand_behind {B} xs (m ∷ ms) = (
@@ -84,7 +84,7 @@ module _ (M : Machine) {Setup Hosted Store U : Type 0} (k : Keeper Store M.Body)
     pub is_up : c.phase ≡ Up → (view_in c).honest ≡ true → IsIn c.node.state (view_in c).state
     is_up up honest = (subst (λ (p : Phase M.Body M.Line M.Target). Shows M k (view_in c).size (suc (view_in c).node) (view_in c).state p c.refused c.node) up (h.shows honest)).0
 
-    -- what an act of the node in memory comes to
+    -- the result of an act of the node in memory
     pub acted_here : (a : Act M) → Acted c.node.id (size_of c.node.state) (let near = h.book.opened.0.near in omega (arith, near, h.size)) (seen c.node.state []) (turned M a c.node []).node
     acted_here a =
         turn_acted M c.node.id (size_of c.node.state) (let near = h.book.opened.0.near in omega (arith, near, h.size)) (seen c.node.state [])
@@ -148,7 +148,7 @@ module _ (M : Machine) {Setup Hosted Store U : Type 0} (k : Keeper Store M.Body)
             state = λ honest. look_state M n i s from target ∙ ap (λ (t : Turn M). t.node) (turn_here s (is_up up honest) (Looks from target) ∙ d s.sent) ∙ is_up up honest;
           }
 
-      -- what may stand once the node went down in a turn
+      -- what the store may hold once the node went down in a turn
       same_later : (v w : Saved M.Body) → v ≡ w → IsLater 0 w v
       same_later v w e =
           let boot : v.boot ≡ w.boot = ap (λ (z : Saved M.Body). z.boot) e in

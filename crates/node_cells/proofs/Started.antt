@@ -38,7 +38,7 @@ use Rattle.node_cells.proofs.Sending.{none_known}
 use Rattle.node_cells.proofs.Showing.{Inner}
 
 module _ {B L T : Type 0} where
-  -- where it did not go down as inputs were saved together, it went down alone, if at all
+  -- if it did not go down while inputs were saved together, it went down alone, if at all
   pub not_together : (p : Phase B L T) → ((inputs copies : Vec (NodeInput B L)) (answers : Vec Answer) → p ≡ DownInTurns inputs copies answers → ⊥) → IsAlone p
   not_together Up h = tt
   not_together (DownInTurn x copy done) h = tt
@@ -78,7 +78,7 @@ module _ (M : Machine) where
   ran v (t ∷ ts) = let r = ran (after_event M v t.0 t.1) ts in record { size = r.size; node = r.node; honest = r.honest; state = r.state }
 
 module _ {B : Type 0} where
-  -- what is told of the node in memory is told of what stood
+  -- what is known of the node in memory is known of what was saved
   pub told_of : (before : Remembered) (old new : NodeState B) (n : ℕ) (v : Saved B) (same : Bool) → Remembers before old → BeganWith n v new
       → (IsTrue same ↔ (before.term ≡ new.standing.term) × (before.vote ≡ new.standing.vote) × (before.terms.items ≡ terms_of new.log))
       → (IsTrue same ↔ (old.standing.term ≡ v.term) × (old.standing.vote ≡ v.vote) × (terms_of old.log ≡ terms_of v.log))

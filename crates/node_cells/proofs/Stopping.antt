@@ -87,7 +87,7 @@ module _ (M : Machine) where
           omega (arith, few, turns, less, tickets),
         )
 
-    -- of inputs that were not saved the stop in the first was noted
+    -- for inputs that were not saved the stop in the first was noted
     pub first_noted : (b d : Book M Setup) (xs : List (NodeInput M.Body M.Line)) (x : NodeInput M.Body M.Line) → 1 ≤ length xs → x ≡ get_or xs 0 x → HasNoted M b (StopIn x false) outcome.Quiet d
         → HasNotedAll M b (stops_before xs) d
     first_noted b d [] x some is h = absurd (omega (arith, some))

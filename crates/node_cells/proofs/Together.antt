@@ -40,7 +40,7 @@ use Rattle.node_cells.proofs.Started.{Ran, ran}
 use Rattle.node_cells.proofs.Turning.{up_brings_none, up_is_copied, up_is_together}
 
 module _ (M : Machine) where
-  -- the turns of these inputs come to what the inputs come to
+  -- the turns of these inputs give the result of the inputs
   done_run : (n i : ℕ) (s : Node M.Body) (xs : List (NodeInput M.Body M.Line)) (answers : List Answer) (turns : List (NotedOf M)) → length answers ≡ length xs → AreNoted M (all_done xs answers) turns
       → run M n i s (map (turn_in M) turns) ≡ after_inputs M n i s xs
   done_run n i s [] answers [] many h = refl
@@ -69,7 +69,7 @@ module _ (M : Machine) {Setup Hosted Store U : Type 0} (k : Keeper Store M.Body)
     leads_here : v.honest ≡ true → is_leader v.state.role ≡ true
     leads_here honest = subst (λ (s : Node M.Body). is_leader s.role ≡ true) (is_up M k c h up honest) leads
 
-    -- what the inputs come to, by the view and by the node in memory
+    -- the result of the inputs, by the view and by the node in memory
     all_here : (s : Node M.Body) → IsIn q.state s → after_inputs M v.size (suc v.node) s xs ≡ turned_all M (size_of q.state) q.id (acts M xs) (seen q.state s.sent)
     all_here s here = sym (after_same M v.size (suc v.node) xs s) ∙ (λ d. turned_all M (size_is M k c h d) (id_is M k c h d) (acts M xs) (sym here d))
 
@@ -172,7 +172,7 @@ module _ (M : Machine) {Setup Hosted Store U : Type 0} (k : Keeper Store M.Body)
             high = omega (arith, boot);
           }
 
-      -- the store holds what all inputs come to, or what stood before
+      -- the store holds the result of all inputs, or what was there before
       either_stands : v.honest ≡ true → StandsEither k q'.store 0 (saved_by v.state) (saved_by (after_inputs M v.size (suc v.node) v.state xs))
       either_stands honest w stands =
           let here = is_up M k c h up honest in
@@ -245,7 +245,7 @@ module _ (M : Machine) {Setup Hosted Store U : Type 0} (k : Keeper Store M.Body)
         pub falls_first : (ph : Phase M.Body M.Line M.Target) → IsDownInFirst xs ph → FallsInTurns M c xs (cell_of b0 q' u ph r line)
         falls_first ph down = falls_with ph (inl down)
 
-    -- ---- whichever it was
+    -- -- in either case
     module _ (all copies : Vec (NodeInput M.Body M.Line)) (copied : all.items ≡ xs) (some : 1 ≤ length xs) (unsaved : Unsaved) (failed : HaveFailed M k (map input_of xs) q unsaved q')
         (sure : (s : Store) (w : Saved M.Body) → Serves (k.condition s) → k.may_stand s w ↔ (w ≡ k.saved s)) (holds : q.down ≡ None → Holds k q.store q.state) (ph : Phase M.Body M.Line M.Target)
         (in_all : IfSome unsaved.answers (λ given. ph ≡ DownInTurns all copies given)) (in_first : unsaved.answers ≡ None → IsDownInFirst all.items ph) (kept : HasCopies b0.recording ph) where

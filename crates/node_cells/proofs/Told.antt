@@ -1,4 +1,4 @@
--- What is noted by what clauses are told of it.
+-- What is noted, by what clauses see of it.
 use Rattle.std.proofs.Common.{◌≡◌, suc, true, Some, sym, ap, ◌∙◌, subst}
 use Rattle.raft_node.specs.Machine.{Machine}
 use Rattle.world_run.specs.Told.{out_of}
@@ -12,7 +12,7 @@ use Rattle.node_cells.specs.Books.{HasNoted, OutcomeOf}
 use Rattle.node_cells.specs.Copies.{IsKept}
 use Rattle.node_cells.proofs.Recorded.{Book}
 
--- what is there anyway is kept
+-- what exists anyway is kept
 pub whole_kept : {A : Type 0} (recording : Recording) (r : ForRecord A) (x : A) → (r.told.value ≡ x) × (r.kept ≡ Some x) → IsKept recording r
 whole_kept recording r x h = λ on. h.1 ∙ ap Some (sym h.0)
 

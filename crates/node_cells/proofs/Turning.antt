@@ -81,7 +81,7 @@ module _ (M : Machine) {Setup Hosted Store U : Type 0} (k : Keeper Store M.Body)
         sent_1 : v.honest ≡ true → (view_of b1.pass).state.sent ≡ v.state.sent ++ output.messages.items
         sent_1 honest = ap (λ (s : Node M.Body). s.sent) (state_1 ∙ facts.state honest)
 
-        -- what the posts ask for
+        -- what the posts require
         pub may_post : (view_of b1.pass).honest ≡ true → StandFrom (view_of b1.pass).state.sent b1.sent output.messages.items
         may_post is =
             let honest : v.honest ≡ true = sym honest_1 ∙ is in
@@ -102,7 +102,7 @@ module _ (M : Machine) {Setup Hosted Store U : Type 0} (k : Keeper Store M.Body)
             omega (arith, few, before, long, sent)
 
         module _ (b2 : Book M Setup) (posted : HasPosted M b1 (length output.messages.items) b2) where
-          -- the view but for what was posted
+          -- the view except for what was posted
           view_2 : (more : List ℕ) × (view_of b2.pass ≡ record (after_event M v noted.ticket (Does x)) { posted = more })
           view_2 =
               let more : List ℕ = (posts_from (view_of b1.pass) b1.sent (length output.messages.items)).posted in
@@ -185,7 +185,7 @@ module _ (M : Machine) {Setup Hosted Store U : Type 0} (k : Keeper Store M.Body)
                         (λ d. (sym (posted.view ∙ posts_are (view_of b1.pass) b1.sent (length output.messages.items)) d, sym to d)) (gave_behind (view_of b1.pass) (posts_from (view_of b1.pass) b1.sent (length output.messages.items)).posted _ _ gave);
                   }
 
-      -- the step was done, and its output found no memory
+      -- the step was done, and memory ran out for its output
       pub done_cell : ((s : Store) (w : Saved M.Body) → Serves (k.condition s) → k.may_stand s w ↔ (w ≡ k.saved s)) → HasHeard v (carries x)
           → (copy : Option (NodeInput M.Body M.Line)) → IsCopy b0.recording x copy → IsCell M k (cell_of b0 q' u (DownInTurn x copy true) r line)
       done_cell sure heard copy copied =
@@ -241,7 +241,7 @@ module _ (M : Machine) {Setup Hosted Store U : Type 0} (k : Keeper Store M.Body)
             shows = λ honest. subst (λ (n : ℕ). Shows M k v.size (suc v.node) v.state (DownInTurn x copy false) n q') (sym (h.refused up)) (downed M k c h up x copy cause q' falls same honest);
           }
 
-    -- the node is down, and the rest of the cell is as it was
+    -- the node is down, and the rest of the cell is unchanged
     pub falls_in : (x : NodeInput M.Body M.Line) (copy : Option (NodeInput M.Body M.Line)) (done : Bool) (q' : Inner M Setup Hosted Store) → FallsInTurn M c x (cell_of b0 q' u (DownInTurn x copy done) r line)
     falls_in x copy done q' =
         record {

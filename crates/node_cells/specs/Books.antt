@@ -1,4 +1,4 @@
--- What a cell keeps beside its node: its pass at the ether, and the record of its turns.
+-- What a cell keeps besides its node: its pass at the ether, and the record of its turns.
 use Rattle.std.specs.Prelude.{◌≡◌, ◌*◌, ◌+◌, ◌<◌, ◌≤◌, ℕ, Bool, true, List, [], ◌∷◌, ◌++◌, length, map, Option}
 use Rattle.raft_node.specs.Machine.{Machine}
 use Rattle.world_run.specs.declared.outcome.Outcome.{Outcome}
@@ -27,13 +27,13 @@ abbrev pub recorded_by : {A : Type 0} → Recording → List A → List A
 recorded_by On turns = turns
 recorded_by Off turns = []
 
--- how much room so many turns want in a record
+-- how much room this many turns need in a record
 abbrev pub room_for : Recording → ℕ → ℕ
 room_for On count = count
 room_for Off count = 0
 
--- its ether and its pass, whether turns are recorded and those that were, how many messages were posted, and how many more turns
--- find room
+-- its ether and its pass, whether turns are recorded and those that were, how many messages were posted, and for how
+-- many more turns there is room
 pub record BookParts (Setup B L T E P : Type 0) : Type 0 where
   pub ether : EtherParts Setup
   pub pass : Pass B L T
@@ -63,12 +63,13 @@ module _ (M : Machine) where
   abbrev pub out_in : NotedOf → Out M
   out_in r = out_of M r.outcome
 
-  -- The record of an opened node: its turns are the view's, and over an honest store each has what comes out of it by the view.
+  -- The record of an opened node: its turns are the view's, and over an honest store each has what comes out of it by
+  -- the view.
   pub record IsRecordOf (v : ViewOf M) (turns : List NotedOf) : Type 0 where
     pub turns_are : map turn_in turns ≡ v.turns
     pub outs_are : v.honest ≡ true → map out_in turns ≡ outs_of M v
 
-  -- What is recorded of an opened node: where turns are recorded its record, else nothing.
+  -- What is recorded of an opened node: its record if turns are recorded, else nothing.
   abbrev pub IsRecordBy : Recording → ViewOf M → List NotedOf → Type 0
   IsRecordBy On v turns = IsRecordOf v turns
   IsRecordBy Off v turns = turns ≡ []
@@ -82,11 +83,11 @@ module _ (M : Machine) where
       pub few : sent ≤ 7 * length (view_of pass).turns
       pub small : ether.size ≤ 7
 
-    -- a book of such parts, whatever room it has
+    -- a book with these parts, whatever room it has
     abbrev pub IsBook : BookParts Setup M.Body M.Line M.Target M.Effect M.Played → Type 0
     IsBook b = AreOfBook b.ether b.pass b.recording b.turns b.sent
 
-    -- An event was ticked, and recorded with what came out of it where turns are recorded.
+    -- An event was ticked, and recorded with what came out of it if turns are recorded.
     pub record HasNoted (old : BookParts Setup M.Body M.Line M.Target M.Effect M.Played) (e : EventOf M) (o : OutcomeOf) (new : BookParts Setup M.Body M.Line M.Target M.Effect M.Played) : Type 0 where
       pub ticket : ℕ
       pub view : view_of new.pass ≡ after_event M (view_of old.pass) ticket e
@@ -97,7 +98,7 @@ module _ (M : Machine) where
       pub sent : new.sent ≡ old.sent
       pub room : new.room + room_for old.recording 1 ≡ old.room
 
-    -- So many messages were posted, with the next numbers.
+    -- This many messages were posted, with the next numbers.
     pub record HasPosted (old : BookParts Setup M.Body M.Line M.Target M.Effect M.Played) (count : ℕ) (new : BookParts Setup M.Body M.Line M.Target M.Effect M.Played) : Type 0 where
       pub view : view_of new.pass ≡ posts_from (view_of old.pass) old.sent count
       pub recording : new.recording ≡ old.recording
@@ -108,7 +109,8 @@ module _ (M : Machine) where
       pub room : new.room ≡ old.room
 
 module _ {B L T E P : Type 0} where
-  -- Where turns are recorded, the turn of this ticket was put behind these, with the event and what came out of it of which these are copies.
+  -- If turns are recorded, the turn of this ticket was appended to these, with the event and what came out of it, of
+  -- which these are copies.
   abbrev pub KeepsTurn : Recording → List (NodeTurn B L T E P) → ℕ → Option (NodeEvent B L T) → Option (Outcome E P) → List (NodeTurn B L T E P) → Type 0
   KeepsTurn recording turns ticket event outcome new =
       (e : NodeEvent B L T) (o : Outcome E P) → IsCopy recording e event → IsCopy recording o outcome → new ≡ turns ++ recorded_by recording (record { ticket = ticket; event = e; outcome = o } ∷ [])
@@ -118,7 +120,7 @@ module _ {Setup B L T E P : Type 0} where
   abbrev pub IsSameBut : BookParts Setup B L T E P → BookParts Setup B L T E P → Type 0
   IsSameBut old new = new ≡ record old { room = new.room }
 
-  -- the same, but for the pass, which is another with the same view
+  -- the same, except for the pass, which is another with the same view
   pub record IsSameBook (old new : BookParts Setup B L T E P) : Type 0 where
     pub view : view_of new.pass ≡ view_of old.pass
     pub looks : looks_of new.pass ≡ looks_of old.pass
@@ -128,20 +130,21 @@ module _ {Setup B L T E P : Type 0} where
     pub node : new.pass.node ≡ old.pass.node
     pub sent : new.sent ≡ old.sent
 
-  -- Room in the record for so many turns, and tickets for them; all else is as it was. Where none is recorded, no room is made.
+  -- Room in the record for this many turns, and tickets for them; all else is unchanged. If none is recorded, no room
+  -- is made.
   pub record HasRoom (old : BookParts Setup B L T E P) (count : ℕ) (new : BookParts Setup B L T E P) : Type 0 where
     pub room : room_for old.recording count ≤ new.room
     pub none_made : old.recording ≡ Off → new.room ≡ old.room
     pub tickets : length (view_of old.pass).turns + count ≤ number_limit
     pub same : IsSameBut old new
 
-  -- There is none; and there is memory enough where nothing is recorded.
+  -- There is none; and memory does not run out if nothing is recorded.
   abbrev pub HasNoRoom : BookParts Setup B L T E P → ℕ → CellFault → BookParts Setup B L T E P → Type 0
   HasNoRoom old count Memory new = IsSameBut old new × (old.recording ≡ On)
   HasNoRoom old count Spent new = IsSameBut old new × (number_limit < length (view_of old.pass).turns + count)
   HasNoRoom old count (OfNode fault) new = ⊥
 
-  -- what lay in the mailbox was heard, and the look is kept
+  -- the message in the mailbox was heard, and the look is kept
   pub record HasTaken (old : BookParts Setup B L T E P) (from : ℕ) (came : Option (Envelope B)) (new : BookParts Setup B L T E P) : Type 0 where
     pub view : view_of new.pass ≡ after_take (view_of old.pass) came
     pub looks : looks_of new.pass ≡ looks_of old.pass ++ look_at (mailbox_of old.ether.size from old.pass.node) came ∷ []
@@ -151,7 +154,7 @@ module _ {Setup B L T E P : Type 0} where
     pub node : new.pass.node ≡ old.pass.node
     pub sent : new.sent ≡ old.sent
 
-  -- a look into its own mailbox to the node at this place, kept where nothing lay there
+  -- a look into its own mailbox to the node at this place, kept if it was empty
   pub record HasSeen (old : BookParts Setup B L T E P) (to : ℕ) (taken : Bool) (new : BookParts Setup B L T E P) : Type 0 where
     pub view : view_of new.pass ≡ view_of old.pass
     pub looks : looks_of new.pass ≡ looks_of old.pass ++ look_if taken (mailbox_of old.ether.size old.pass.node to)

@@ -1,4 +1,4 @@
--- Why a cell's node is down, and what its calls tell of it.
+-- Why a cell's node is down, and what its calls say about it.
 use Rattle.std.specs.Prelude.{◌≡◌, Option, None, Some, Result, Ok, Err}
 use Rattle.raft_node.specs.declared.node_fault.Cause.{Cause}
 use Rattle.raft_node.specs.declared.node_fault.Cause.TheVariants.{Memory as NoMemory}
@@ -12,7 +12,8 @@ use Rattle.node_cells.specs.declared.phase.Phase.{Phase}
 use Rattle.node_cells.specs.declared.phase.Phase.TheVariants.{Up, DownInTurn, DownInTurns, DownInRestart}
 use Rattle.node_cells.specs.Cells.{CellParts}
 
--- why a cell is down whose node is down by this: by that, or where the node itself is up, for want of memory
+-- why a cell is down whose node is down for this cause: that cause, or, if the node itself is up, because memory ran
+-- out
 abbrev pub own_cause : Option Cause → Cause
 own_cause None = NoMemory
 own_cause (Some cause) = cause
@@ -29,7 +30,7 @@ module _ {Setup Hosted Store B L T E P U : Type 0} where
   abbrev pub down_in : CellParts Setup Hosted Store B L T E P U → Option Cause
   down_in c = told_down c.phase c.node.down
 
-  -- where a call answers that the node is down, it tells why
+  -- if a call answers that the node is down, it gives the cause
   abbrev pub TellsCause : {A : Type 0} → Result A CellFault → CellParts Setup Hosted Store B L T E P U → Type 0
   TellsCause (Ok x) d = Unit {0}
   TellsCause (Err Memory) d = Unit {0}
@@ -38,8 +39,8 @@ module _ {Setup Hosted Store B L T E P U : Type 0} where
   TellsCause (Err (OfNode (Down cause))) d = cause ≡ own_cause d.node.down
 
   module _ (k : Keeper Store B) where
-    -- So does a turn; and where the node itself went down in it, an honest store is the cause only where it failed, and want of memory
-    -- only where it did not.
+    -- So does a turn; and if the node itself went down in it, an honest store is the cause only if it failed, and
+    -- memory only if it did not.
     abbrev pub HasCause : {A : Type 0} → CellParts Setup Hosted Store B L T E P U → Result A CellFault → CellParts Setup Hosted Store B L T E P U → Type 0
     HasCause c (Ok x) d = Unit {0}
     HasCause c (Err Memory) d = Unit {0}
@@ -48,7 +49,7 @@ module _ {Setup Hosted Store B L T E P U : Type 0} where
     HasCause c (Err (OfNode (Down cause))) d =
         (cause ≡ own_cause d.node.down) × (c.phase ≡ Up → d.node.down ≡ Some cause → IsBlamed cause (k.condition c.node.store) (k.condition d.node.store))
 
-    -- where a restart fails, the node is down by the fault that is told, which a restart from this store may have
+    -- if a restart fails, the node is down by the fault in the answer, which a restart from this store may have
     abbrev pub MayNotRestart : CellParts Setup Hosted Store B L T E P U → Result (Unit {0}) CellFault → CellParts Setup Hosted Store B L T E P U → Type 0
     MayNotRestart c (Ok done) d = Unit {0}
     MayNotRestart c (Err Memory) d = Unit {0}

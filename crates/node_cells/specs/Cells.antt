@@ -1,4 +1,4 @@
--- A node with its book, and what holds of it.
+-- A node with its book, and what holds for it.
 use Rattle.std.specs.Prelude.{◌≡◌, ◌⊎◌, ◌+◌, ◌<◌, ◌≤◌, ℕ, suc, true, false, List, [], ◌∷◌, length, Option, Some, None, Result, Ok, Err}
 use Rattle.raft_log.specs.declared.node_state.NodeState.{NodeState}
 use Rattle.raft_log.specs.Node.{Node, is_leader}
@@ -28,8 +28,8 @@ use Rattle.node_cells.specs.Inputs.{Answer, OnlyAppend}
 use Rattle.node_cells.specs.Sending.{KnowsOneOf}
 use Rattle.wire_bytes.specs.Limits.{number_limit}
 
--- its book, its node and where its lines go; whether the node is up, how many restarts were refused since it was, and the line of
--- the state that the cell shows
+-- its book, its node and where its lines go; whether the node is up, how many restarts were refused since it was, and
+-- the fields of the state that the cell shows
 pub record CellParts (Setup Hosted Store B L T E P U : Type 0) : Type 0 where
   pub ether : EtherParts Setup
   pub pass : Pass B L T
@@ -42,7 +42,7 @@ pub record CellParts (Setup Hosted Store B L T E P U : Type 0) : Type 0 where
   pub refused : ℕ
   pub shown : NodeFields
 
--- a cell, and how many more turns find room in its record
+-- a cell, and for how many more turns its record has room
 pub record CellRoom (Setup Hosted Store B L T E P U : Type 0) : Type 0 where
   pub parts : CellParts Setup Hosted Store B L T E P U
   pub room : ℕ
@@ -68,7 +68,7 @@ module _ {Setup Hosted Store B L T E P U : Type 0} where
         shown = shown;
       }
 
-  -- Room in the record and tickets are there for so many turns, or are not; the cell is as it was.
+  -- There is room in the record and there are tickets for this many turns, or not; the cell is unchanged.
   abbrev pub HasMadeRoom : ℕ → CellRoom Setup Hosted Store B L T E P U → Result (Unit {0}) CellFault → CellRoom Setup Hosted Store B L T E P U → Type 0
   HasMadeRoom count c (Ok done) d = (d.parts ≡ c.parts) × (room_for c.parts.recording count ≤ d.room) × (length (view_of c.parts.pass).turns + count ≤ number_limit)
   HasMadeRoom count c (Err Memory) d = d.parts ≡ c.parts
@@ -76,7 +76,7 @@ module _ {Setup Hosted Store B L T E P U : Type 0} where
   HasMadeRoom count c (Err (OfNode fault)) d = ⊥
 
 module _ {B : Type 0} where
-  -- the same was saved, but that up to r runs were begun since
+  -- the same was saved, except that up to r runs were begun since
   pub record IsLater (r : ℕ) (old new : Saved B) : Type 0 where
     pub term : new.term ≡ old.term
     pub vote : new.vote ≡ old.vote
@@ -85,11 +85,11 @@ module _ {B : Type 0} where
     pub high : new.boot ≤ old.boot + r
 
   module _ {Store : Type 0} (k : Keeper Store B) where
-    -- what may stand in a store is this, but for up to r runs that were begun since
+    -- what a store may hold is this, but for up to r runs that were begun since
     abbrev pub Stands : Store → ℕ → Saved B → Type 0
     Stands store r s = (v : Saved B) → k.may_stand store v → IsLater r s v
 
-    -- it is the one or the other
+    -- it is one or the other
     abbrev pub StandsEither : Store → ℕ → Saved B → Saved B → Type 0
     StandsEither store r s t = (v : Saved B) → k.may_stand store v → IsLater r s v ⊎ IsLater r t v
 
@@ -99,28 +99,28 @@ module _ {B : Type 0} where
   IsIn state s = seen state s.sent ≡ s
 
 module _ {B L T : Type 0} where
-  -- what the input brings, in which the node went down
+  -- the message of the input in which the node went down
   abbrev pub brought : Phase B L T → Option (Envelope B)
   brought Up = None
   brought (DownInTurn x copy done) = carries x
   brought (DownInTurns inputs copies answers) = None
   brought DownInRestart = None
 
-  -- Inputs that were saved together are one at least, the node only appends by them, and each has an answer.
+  -- At least one input was saved together, the node only appends by them, and each has an answer.
   abbrev pub AreTogether : Phase B L T → Type 0
   AreTogether Up = Unit {0}
   AreTogether (DownInTurn x copy done) = Unit {0}
   AreTogether (DownInTurns inputs copies answers) = (1 ≤ length inputs.items) × (length answers.items ≡ length inputs.items) × OnlyAppend inputs.items
   AreTogether DownInRestart = Unit {0}
 
-  -- Where turns are recorded, the phase has copies of what the node went down in.
+  -- If turns are recorded, the phase has copies of what the node went down in.
   abbrev pub HasCopies : Recording → Phase B L T → Type 0
   HasCopies recording Up = Unit {0}
   HasCopies recording (DownInTurn x copy done) = IsCopy recording x copy
   HasCopies recording (DownInTurns inputs copies answers) = AreCopies recording inputs.items copies.items
   HasCopies recording DownInRestart = Unit {0}
 
-  -- what is brought, if something is, was heard
+  -- the message, if there is one, was heard
   abbrev pub HasHeard : View B L T → Option (Envelope B) → Type 0
   HasHeard v o = (m : Envelope B) → o ≡ Some m → (k : ℕ) × IsAt v.heard k m
 
@@ -141,9 +141,10 @@ module _ (M : Machine) where
   AreAnswered n i s (x ∷ inputs) (a ∷ answers) = (own_out M n i s (Does x) ≡ out_of M a) × AreAnswered n i (after_input n i s x) inputs answers
 
 module _ (M : Machine) {Setup Hosted Store : Type 0} (k : Keeper Store M.Body) where
-  -- How a node shows the view's state s. While it is up it is in this state. Once it is down, s is the state from before the turn, or before the
-  -- refused restart, in which it went down; its store may hold that, or what the turn made of it, and r restarts were refused since. Of turns that
-  -- were saved together it holds what all made of it, or none.
+  -- How a node shows the view's state s. While it is up it is in this state. Once it is down, s is the state from
+  -- before the turn, or before the refused restart, in which it went down; its store may hold that, or the result of
+  -- the turn, and r restarts were refused since. After turns that were saved together it holds the result of all, or of
+  -- none.
   abbrev pub Shows : ℕ → ℕ → Node M.Body → Phase M.Body M.Line M.Target → ℕ → Parts Setup Hosted Store M.Body → Type 0
   Shows n i s Up r q = IsIn q.state s × (q.down ≡ None)
   Shows n i s (DownInTurn x copy false) r q =
@@ -155,8 +156,9 @@ module _ (M : Machine) {Setup Hosted Store : Type 0} (k : Keeper Store M.Body) w
       × (is_leader s.role ≡ true) × AreAnswered M n i s inputs.items answers.items
   Shows n i s DownInRestart r q = IsIn q.state s × Stands k q.store r (saved_by s)
 
-  -- A cell: its book is kept, and its node is that of its pass, with the ether's setup. Over an honest store the node shows the view's state, as
-  -- many messages were posted as the view's node sent, and the line is that of the view's state.
+  -- A cell: its book is kept, and its node is that of its pass, with the ether's setup. Over an honest store the node
+  -- shows the view's state, as many messages were posted as the view's node sent, and the fields are those of the
+  -- view's state.
   pub record IsCell {U : Type 0} (c : CellParts Setup Hosted Store M.Body M.Line M.Target M.Effect M.Played U) : Type 0 where
     pub book : AreOfBook M c.ether c.pass c.recording c.turns c.sent
     pub id : c.node.id ≡ suc c.pass.node

@@ -1,15 +1,15 @@
--- What a cell copies for its record: nothing where turns are not recorded.
+-- What a cell copies for its record: nothing if turns are not recorded.
 use Rattle.std.specs.Prelude.{◌≡◌, List, [], ◌∷◌, Option, None, Some}
 use Rattle.node_cells.specs.declared.for_record.ForRecord.{ForRecord}
 use Rattle.node_cells.specs.declared.record.Recording.{Recording}
 use Rattle.node_cells.specs.declared.record.Recording.TheVariants.{On}
 
 module _ {A : Type 0} where
-  -- where turns are recorded, this is a copy of it
+  -- if turns are recorded, this is a copy of it
   abbrev pub IsCopy : Recording → A → Option A → Type 0
   IsCopy recording x copy = recording ≡ On → copy ≡ Some x
 
-  -- where turns are recorded, these are copies of them, in order
+  -- if turns are recorded, these are copies of them, in order
   abbrev pub AreCopies : Recording → List A → List A → Type 0
   AreCopies recording xs copies = recording ≡ On → copies ≡ xs
 
@@ -18,6 +18,6 @@ module _ {A : Type 0} where
   first_in [] = None
   first_in (x ∷ xs) = Some x
 
-  -- where turns are recorded, what clauses are told is kept
+  -- if turns are recorded, what clauses see is kept
   abbrev pub IsKept : Recording → ForRecord A → Type 0
   IsKept recording r = IsCopy recording r.told.value r.kept

@@ -21,8 +21,8 @@ module _ (M : Machine) where
   RecordOf = NodeRecord M.Body M.Line M.Target M.Effect M.Played
 
   module _ (recording : Recording) where
-    -- The record that the node at a place left, whose view this is: where turns are recorded the view's turns with what came out of each, else
-    -- none; and the line of its state.
+    -- The record of the node at a place, whose view this is: if turns are recorded the view's turns with what came out
+    -- of each, else none; and the fields of its state.
     pub record IsLeftBy (i : ℕ) (v : ViewOf M) (r : RecordOf) : Type 0 where
       pub node : r.node ≡ suc i
       pub recorded : IsRecordBy M recording v r.turns.items
@@ -33,9 +33,9 @@ module _ (M : Machine) where
       pub many : length records ≡ length views
       pub each : (i : ℕ) (v : ViewOf M) (r : RecordOf) → IsAt views i v → IsAt records i r → IsLeftBy i v r
 
-    -- The records of all nodes of a group, node 1's first, whose views these are. The views keep the rule, so that their turns, merged by rising
-    -- ticket, replay as a run of the group, where the openings are as some list of events leaves the nodes; the records have these turns, where
-    -- they are recorded.
+    -- The records of all nodes of a group, node 1's first, whose views these are. The views keep the rule, so that
+    -- their turns, merged by rising ticket, replay as a run of the group, if the openings are as some list of events
+    -- leaves the nodes; the records have these turns, if they are recorded.
     pub record AreRecordsOfGroup (size : ℕ) (views : List (ViewOf M)) (records : List RecordOf) : Type 0 where
       pub next : ℕ
       pub rule : IsRule M size next views
@@ -55,14 +55,14 @@ module _ (M : Machine) {Setup : Type 0} where
     pub left : AreLeftBy M recording (map view_of passes) records
 
 module _ {Setup Hosted Store B L T E P U : Type 0} where
-  -- a cell of the ether that records as they do, whose node is the one behind those that were closed
+  -- a cell of the ether that records as they do, whose node is the next after those that were closed
   pub record IsNextCell (closing : ClosingParts Setup B L T) (c : CellParts Setup Hosted Store B L T E P U) : Type 0 where
     pub ether : c.ether ≡ closing.ether
     pub recording : c.recording ≡ closing.recording
     pub node : (view_in c).node ≡ length closing.views
     pub few : length closing.views < closing.ether.size
 
-  -- the cell's view is the last, and all else is as it was
+  -- the cell's view is the last, and all else is unchanged
   pub record HasClosed (old : ClosingParts Setup B L T) (c : CellParts Setup Hosted Store B L T E P U) (new : ClosingParts Setup B L T) : Type 0 where
     pub ether : new.ether ≡ old.ether
     pub recording : new.recording ≡ old.recording

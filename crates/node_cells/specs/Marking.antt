@@ -1,4 +1,4 @@
--- What it comes to that a cell's node marks a place, and that a look waits for a mark.
+-- A cell's node marks a place, and a look waits for a mark.
 use Rattle.std.specs.Prelude.{◌≡◌, ◌⊎◌, ◌≤◌, ℕ, suc, length, Bool, true, false, Option, Result, Ok, Err}
 use Rattle.wire_bytes.specs.declared.mark.Mark.{Mark}
 use Rattle.node_steps.specs.declared.refusal.Refusal.TheVariants.{Behind}
@@ -29,7 +29,7 @@ module _ (M : Machine) {Setup Hosted Store U : Type 0} where
     pub same : d ≡ c
 
   module _ (tally : U → Tally) where
-    -- a look, where the mark was found, and else the answer Behind
+    -- a look, if the mark was found, and else the answer Behind
     abbrev pub LooksWhere : Bool → CellOf M Setup Hosted Store U → M.Target → Result (PlayedAt M.Played) CellFault → CellOf M Setup Hosted Store U → Type 0
     LooksWhere true c target result d = HasLooked M tally c 0 target result d
     LooksWhere false c target result d = IsBehind c result d
@@ -42,20 +42,22 @@ module _ (M : Machine) {Setup Hosted Store U : Type 0} where
         pub looks : LooksWhere found c target result d
 
       module _ (mark : Mark → M.Body) where
-        -- The node asked for a mark. Its number is one more than the greatest that its run asked, and its run is the view's.
+        -- The node asked for a mark. Its number is one more than the greatest that its run asked for, and its run is
+        -- the view's.
         pub record IsMarked (c : CellOf M Setup Hosted Store U) (number : ℕ) (output : TurnOutput M.Body M.Effect) (d : CellOf M Setup Hosted Store U) : Type 0 where
           pub next : number ≡ suc (asked_in marked (view_in c))
           pub few : number ≤ number_limit
           pub own : (view_in c).honest ≡ true → c.node.state.standing.boot ≡ (view_in c).state.boot
           pub turn : IsTurn M tally c (Ask (mark (own_mark c number))) output d
 
-        -- There is no further number, or there are no more turns, and nothing changes; else the turn that asks for the next mark gives nothing.
+        -- There is no further number, or there are no more turns, and nothing changes; else the turn that asks for the
+        -- next mark gives nothing.
         abbrev pub IsNotMarked : CellOf M Setup Hosted Store U → CellFault → CellOf M Setup Hosted Store U → Type 0
         IsNotMarked c Memory d = d ≡ c
         IsNotMarked c Spent d = (d ≡ c) × ((number_limit ≤ asked_in marked (view_in c)) ⊎ (number_limit ≤ length (view_in c).turns))
         IsNotMarked c (OfNode fault) d = IsNoTurn M tally c (Ask (mark (own_mark c (suc (asked_in marked (view_in c)))))) (OfNode fault) d
 
-        -- by what an asking for a mark answers
+        -- by the answer to asking for a mark
         abbrev pub HasMarked : CellOf M Setup Hosted Store U → Result (MarkTurn M.Body M.Effect) CellFault → CellOf M Setup Hosted Store U → Type 0
         HasMarked c (Ok asked) d = IsMarked c asked.number asked.output d
         HasMarked c (Err fault) d = IsNotMarked c fault d

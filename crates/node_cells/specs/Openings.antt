@@ -19,7 +19,8 @@ use Rattle.node_cells.specs.Books.{IsRecordBy}
 use Rattle.node_cells.specs.Cells.{CellParts, CellRoom, view_in}
 
 module _ {Setup Hosted Store B L T E P U : Type 0} (k : Keeper Store B) where
-  -- A cell as it is opened: its node is as a start from this store gave it, its view is the opening, and nothing is recorded yet.
+  -- A cell as it is opened: its node is as a start from this store gave it, its view is the opening, and nothing is
+  -- recorded yet.
   pub record IsFresh (ether : EtherParts Setup) (pass : Pass B L T) (store : Store) (upstream : U) (recording : Recording) (c : CellParts Setup Hosted Store B L T E P U) : Type 0 where
     pub ticket : ℕ
     pub started : IsFirst k (suc pass.node) ether.size ether.setup store c.node
@@ -39,7 +40,7 @@ module _ {Setup Hosted Store B L T E P U : Type 0} (k : Keeper Store B) where
   HasOpened ether pass store upstream recording (Err (OfNode fault)) = IsStarted {Hosted = Hosted} k (suc pass.node) ether.size ether.setup store (Err fault)
 
 module _ {Setup Hosted Store B L T E P U : Type 0} where
-  -- the same cell, but for its view and its pass
+  -- the same cell, except for its view and its pass
   pub record IsSameBeside (c d : CellParts Setup Hosted Store B L T E P U) : Type 0 where
     pub ether : d.ether ≡ c.ether
     pub node_is : d.node ≡ c.node
@@ -52,26 +53,27 @@ module _ {Setup Hosted Store B L T E P U : Type 0} where
     pub refused : d.refused ≡ c.refused
     pub shown : d.shown ≡ c.shown
 
-  -- one look into a mailbox: what lay there was heard
+  -- one look into a mailbox: its message was heard
   pub record HasTakenIn (c : CellParts Setup Hosted Store B L T E P U) (from : ℕ) (came : Option (Envelope B)) (d : CellParts Setup Hosted Store B L T E P U) : Type 0 where
     pub view : view_in d ≡ after_take (view_in c) came
     pub looks : looks_of d.pass ≡ looks_of c.pass ++ look_at (mailbox_of c.ether.size from c.pass.node) came ∷ []
     pub same : IsSameBeside c d
 
-  -- one look into its own mailbox to the node at this place, kept where nothing lay there
+  -- one look into its own mailbox to the node at this place, kept if it was empty
   pub record HasSeenTo (c : CellParts Setup Hosted Store B L T E P U) (to : ℕ) (taken : Bool) (d : CellParts Setup Hosted Store B L T E P U) : Type 0 where
     pub view : view_in d ≡ view_in c
     pub looks : looks_of d.pass ≡ looks_of c.pass ++ look_if taken (mailbox_of c.ether.size c.pass.node to)
     pub same : IsSameBeside c d
 
-  -- the cell is as it was
+  -- the cell is unchanged
   pub record IsSameCell (c d : CellParts Setup Hosted Store B L T E P U) : Type 0 where
     pub view : view_in d ≡ view_in c
     pub looks : looks_of d.pass ≡ looks_of c.pass
     pub same : IsSameBeside c d
 
 module _ (M : Machine) {Setup Hosted Store U : Type 0} where
-  -- What a cell leaves: where it records, the turns of its view, each with what came out of it, and the line of the state that it shows.
+  -- What a cell leaves: if it records, the turns of its view, each with what came out of it, and the fields of the
+  -- state that it shows.
   pub record IsClosed (c : CellParts Setup Hosted Store M.Body M.Line M.Target M.Effect M.Played U) (r : NodeRecord M.Body M.Line M.Target M.Effect M.Played) : Type 0 where
     pub node : r.node ≡ suc c.pass.node
     pub turns : r.turns.items ≡ c.turns

@@ -1,4 +1,4 @@
--- What posts come to.
+-- The results of posts.
 use Rattle.std.specs.Prelude.{◌≡◌, ◌⊎◌, ℕ, zero, suc, List, [], ◌∷◌, Option, None, Some}
 use Rattle.world_views.specs.declared.envelope.Envelope.{Envelope}
 use Rattle.world_views.specs.Views.{View}
@@ -6,7 +6,7 @@ use Rattle.ether.specs.Passes.{IsSent}
 use Rattle.ether.specs.Plays.{after_post}
 
 module _ {B L T : Type 0} where
-  -- the view after posts of the k messages behind the first n
+  -- the view after posts of the k messages after the first n
   abbrev pub posts_from : View B L T → ℕ → ℕ → View B L T
   posts_from v n zero = v
   posts_from v n (suc k) = posts_from (after_post v (suc n)) (suc n) k
@@ -15,7 +15,7 @@ module _ {B L T : Type 0} where
   abbrev pub IsGivenBack : View B L T → ℕ → Envelope B → Type 0
   IsGivenBack v to e = IsSent v e × (e.message.to ≡ to)
 
-  -- so is what a post to that node gives back, if it gives something back
+  -- so is the message that a post to that node gives back, if there is one
   abbrev pub MayGiveBack : View B L T → ℕ → Option (Envelope B) → Type 0
   MayGiveBack v to None = Unit {0}
   MayGiveBack v to (Some e) = IsGivenBack v to e

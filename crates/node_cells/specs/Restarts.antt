@@ -1,4 +1,4 @@
--- What a restart of a cell publishes, and what stands after it.
+-- What a restart of a cell publishes, and the state after it.
 use Rattle.std.specs.Prelude.{◌≡◌, ◌≤◌, ◌||◌, not, ◌+◌, ◌<◌, ℕ, suc, true, false, Bool, List, [], ◌∷◌, ◌++◌, length, map, Result, Ok, Err}
 use Rattle.stable_store.specs.declared.saved.Saved.{Saved}
 use Rattle.raft_log.specs.Node.{Node}
@@ -24,38 +24,39 @@ use Rattle.node_cells.specs.Turns.{IsDownAs}
 use Rattle.wire_bytes.specs.Limits.{number_limit}
 
 module _ {B : Type 0} where
-  -- the one state has the term, the vote and the terms of entries of the other
+  -- one state has the term, the vote and the terms of entries of the other
   abbrev pub HasSameTerms : Saved B → Saved B → Type 0
   HasSameTerms s t = (s.term ≡ t.term) × (s.vote ≡ t.vote) × (terms_of s.log ≡ terms_of t.log)
 
 module _ {B L T : Type 0} where
-  -- of inputs that were not saved, that the node stopped in the first of them, before that was saved: the others never happened
+  -- for inputs that were not saved: the node stopped in the first of them, before that was saved; the others never
+  -- happened
   abbrev pub stops_before : List (NodeInput B L) → List (NodeEvent B L T × Answer)
   stops_before [] = []
   stops_before (x ∷ inputs) = (StopIn x false, Ok tt) ∷ []
 
-  -- of inputs that were all saved, that each but the last was done, and that the node stopped in the last, after that was saved
+  -- for inputs that were all saved: each but the last was done, and the node stopped in the last, after that was saved
   abbrev pub stops_after : List (NodeInput B L) → List Answer → List (NodeEvent B L T × Answer)
   stops_after [] answers = []
   stops_after (x ∷ inputs) [] = []
   stops_after (x ∷ []) (a ∷ answers) = (StopIn x true, Ok tt) ∷ []
   stops_after (x ∷ y ∷ inputs) (a ∷ answers) = (Does x, a) ∷ stops_after (y ∷ inputs) answers
 
-  -- of inputs that were saved together: all were saved, or where the store holds what the node had in memory, none
+  -- for inputs that were saved together: all were saved, or, if the store holds what the node had in memory, none
   abbrev pub stops_in : Bool → List (NodeInput B L) → List Answer → List (NodeEvent B L T × Answer)
   stops_in true inputs answers = stops_before inputs
   stops_in false inputs answers = stops_after inputs answers
 
-  -- What a restart publishes first, each event with its answer: that the node was started again, or where it had gone down in a turn, that it
-  -- stopped in that, before or after it was saved. It was saved where its step was done, or where the store does not hold what the node had in
-  -- memory.
+  -- What a restart publishes first, each event with its answer: that the node was started again, or, if it had gone
+  -- down in a turn, that it stopped in that, before or after it was saved. It was saved if its step was done, or if the
+  -- store does not hold what the node had in memory.
   abbrev pub firsts_of : Phase B L T → Bool → List (NodeEvent B L T × Answer)
   firsts_of Up same = (Restart, Ok tt) ∷ []
   firsts_of (DownInTurn x copy done) same = (StopIn x (done || not same), Ok tt) ∷ []
   firsts_of (DownInTurns inputs copies answers) same = stops_in same inputs.items answers.items
   firsts_of DownInRestart same = (Restart, Ok tt) ∷ []
 
-  -- so many restarts
+  -- this many restarts
   abbrev pub AreRestarts : List (Ticketed B L T) → Type 0
   AreRestarts [] = Unit {0}
   AreRestarts (t ∷ turns) = (t.1 ≡ Restart) × AreRestarts turns
@@ -68,7 +69,7 @@ module _ {B L T : Type 0} where
   firsts_at_most (DownInTurns inputs copies answers) = length inputs.items
   firsts_at_most DownInRestart = 1
 
-  -- it is not that inputs were saved together
+  -- no inputs were saved together
   abbrev pub IsAlone : Phase B L T → Type 0
   IsAlone Up = Unit {0}
   IsAlone (DownInTurn x copy done) = Unit {0}
@@ -82,7 +83,7 @@ module _ {B L T : Type 0} where
   fallen (DownInTurns inputs copies answers) = DownInTurns inputs copies answers
   fallen DownInRestart = DownInRestart
 
--- what an answer is in the record
+-- an answer as it is in the record
 abbrev pub outcome_by : {E P : Type 0} → Answer → Outcome E P
 outcome_by (Ok done) = Quiet
 outcome_by (Err refusal) = Refused refusal
@@ -93,7 +94,7 @@ module _ (M : Machine) where
   after_turns v [] = v
   after_turns v (t ∷ turns) = after_turns (after_event M v t.0 t.1) turns
 
-  -- where inputs were saved together, these are their answers, from this state on
+  -- if inputs were saved together, these are their answers, from this state on
   abbrev pub TellsAnswers : ℕ → ℕ → Node M.Body → Phase M.Body M.Line M.Target → Type 0
   TellsAnswers n i s Up = Unit {0}
   TellsAnswers n i s (DownInTurn x copy done) = Unit {0}
@@ -107,13 +108,13 @@ module _ (M : Machine) where
   AreNoted (e ∷ events) [] = ⊥
   AreNoted (e ∷ events) (t ∷ turns) = (t.event ≡ e.0) × (t.outcome ≡ outcome_by e.1) × AreNoted events turns
 
-  -- a turn out of which nothing comes
+  -- a turn with no result
   abbrev pub silent : TurnOf M → NotedOf M
   silent t = noted M t.0 t.1 Quiet
 
   module _ {Setup Hosted Store U : Type 0} where
-    -- A restart: the events that the store shows, and a Restart more for each earlier start that failed after it saved its run. Nothing is sent or
-    -- handed out by it.
+    -- A restart: the events that the store shows, and one more Restart for each earlier start that failed after it
+    -- saved its run. Nothing is sent or handed out by it.
     pub record IsRestart (c d : CellParts Setup Hosted Store M.Body M.Line M.Target M.Effect M.Played U) : Type 0 where
       pub first : List (NotedOf M)
       pub same : Bool
@@ -130,13 +131,14 @@ module _ (M : Machine) where
       pub upstream : d.upstream ≡ c.upstream
       pub is_up : d.phase ≡ Up
 
-    -- A refused restart: nothing changes for want of room; else the node is down, and what the cell shows is as it was.
+    -- A refused restart: nothing changes if there is no room; else the node is down, and what the cell shows is
+    -- unchanged.
     pub record IsRefusedRestart (c d : CellParts Setup Hosted Store M.Body M.Line M.Target M.Effect M.Played U) : Type 0 where
       pub phase : d.phase ≡ fallen c.phase
       pub refused : d.refused ≡ suc c.refused
       pub same : IsDownAs M c d
 
-    -- a restart that fails: where memory is short, or turns and refusals pass 2^60, nothing changes; else it is refused
+    -- a restart that fails: if memory runs out, or turns and refusals pass 2^60, nothing changes; else it is refused
     abbrev pub IsNoRestart : CellParts Setup Hosted Store M.Body M.Line M.Target M.Effect M.Played U → CellFault
         → CellParts Setup Hosted Store M.Body M.Line M.Target M.Effect M.Played U → Type 0
     IsNoRestart c Memory d = d ≡ c
@@ -150,7 +152,7 @@ module _ (M : Machine) where
     HasRestarted c (Err fault) d = IsNoRestart c fault d
 
   module _ {Setup : Type 0} where
-    -- These events were ticked, in order, and recorded with their answers where turns are recorded.
+    -- These events were ticked, in order, and recorded with their answers if turns are recorded.
     pub record HasNotedAll (old : BookParts Setup M.Body M.Line M.Target M.Effect M.Played) (events : List (EventOf M × Answer))
         (new : BookParts Setup M.Body M.Line M.Target M.Effect M.Played) : Type 0 where
       pub first : List (NotedOf M)
@@ -163,7 +165,7 @@ module _ (M : Machine) where
       pub sent : new.sent ≡ old.sent
       pub room : new.room + room_for old.recording (length events) ≡ old.room
 
-    -- So many restarts were ticked, and recorded where turns are recorded.
+    -- This many restarts were ticked, and recorded if turns are recorded.
     pub record HasRestarts (old : BookParts Setup M.Body M.Line M.Target M.Effect M.Played) (count : ℕ)
         (new : BookParts Setup M.Body M.Line M.Target M.Effect M.Played) : Type 0 where
       pub more : List (TurnOf M)

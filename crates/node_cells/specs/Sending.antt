@@ -11,12 +11,12 @@ module _ {B : Type 0} where
   AreWithin i size [] = Unit {0}
   AreWithin i size (m ∷ messages) = (m.from ≡ i) × (1 ≤ m.to) × (m.to ≤ size) × AreWithin i size messages
 
-  -- these messages stand in what was sent, behind the first n on
+  -- these messages are in what was sent, after the first n
   abbrev pub StandFrom : List (Message B) → ℕ → List (Message B) → Type 0
   StandFrom sent n [] = Unit {0}
   StandFrom sent n (m ∷ messages) = (item sent (suc n) ≡ Some m) × StandFrom sent (suc n) messages
 
-  -- to whom a message is
+  -- the receiver of a message
   abbrev pub to_of : Message B → ℕ
   to_of m = m.to
 

@@ -1,4 +1,4 @@
--- What comes of several inputs of a cell's node that leads, done one after the other and saved at once.
+-- Several inputs of a cell's node that leads, processed one after the other and saved at once.
 use Rattle.std.specs.Prelude.{◌≡◌, ◌⊎◌, ◌<◌, ◌+◌, suc, true, false, List, [], ◌∷◌, ◌++◌, length, map, Option}
 use Rattle.raft_node.specs.declared.node_fault.NodeFault.TheVariants.{Down, Refused as Declined}
 use Rattle.raft_node.specs.Machine.{Machine}
@@ -23,7 +23,7 @@ module _ {B L T : Type 0} where
   IsDownInFirst [] phase = ⊥
   IsDownInFirst (x ∷ inputs) phase = (copy : Option (NodeInput B L)) × (phase ≡ DownInTurn x copy false)
 
-  -- it went down as they were saved together
+  -- it went down while they were saved together
   abbrev pub IsDownInAll : List (NodeInput B L) → Phase B L T → Type 0
   IsDownInAll inputs Up = ⊥
   IsDownInAll inputs (DownInTurn x copy done) = ⊥
@@ -55,14 +55,16 @@ module _ (M : Machine) where
       pub was_up : c.phase ≡ Up
       pub is_up : d.phase ≡ Up
 
-    -- A node that was up went down as these inputs were saved, or for want of memory in the first of them, before anything was saved.
+    -- A node that was up went down while these inputs were saved, or, when memory ran out, in the first of them, before
+    -- anything was saved.
     pub record FallsInTurns (c : CellOf M Setup Hosted Store U) (inputs : List (NodeInput M.Body M.Line)) (d : CellOf M Setup Hosted Store U) : Type 0 where
       pub was_up : c.phase ≡ Up
       pub phase : IsDownInFirst inputs d.phase ⊎ IsDownInAll inputs d.phase
       pub refused : d.refused ≡ c.refused
       pub same : IsDownAs M c d
 
-    -- Where there is no memory, no room or no more tickets, nothing changes; inputs together are not refused; else the node is down.
+    -- If there is no memory, no room or no more tickets, nothing changes; inputs together are not refused; else the
+    -- node is down.
     abbrev pub AreNoTurns : CellOf M Setup Hosted Store U → List (NodeInput M.Body M.Line) → CellFault → CellOf M Setup Hosted Store U → Type 0
     AreNoTurns c inputs Memory d = d ≡ c
     AreNoTurns c inputs Spent d = (d ≡ c) × (number_limit < length (view_in c).turns + length inputs)
@@ -70,7 +72,7 @@ module _ (M : Machine) where
     AreNoTurns c inputs (OfNode (Down cause)) d = FallsInTurns c inputs d ⊎ WasDown M c d
 
   module _ (Setup Hosted Store : Type 0) {U : Type 0} (tally : U → Tally) where
-    -- One input alone is an event as a turn of it gives it, with its answer.
+    -- One input alone is the same event as by a turn of it, with its answer.
     abbrev pub OneIsATurn : Type 0
     OneIsATurn =
         (c d : CellOf M Setup Hosted Store U) (x : NodeInput M.Body M.Line) (a : Answer)

@@ -1,4 +1,4 @@
--- What a turn of a cell, a look and the other calls answer, and what stands after them.
+-- What a turn of a cell, a look and the other calls answer, and the state after them.
 use Rattle.std.specs.Prelude.{Option, None, Some, ◌≡◌, ◌⊎◌, ◌+◌, ◌<◌, ◌≤◌, ℕ, suc, Bool, true, List, [], ◌∷◌, ◌++◌, drop, length, map, Result, Ok, Err}
 use Rattle.raft_node.specs.declared.node_fault.Cause.TheVariants.{Memory as NoMemory}
 use Rattle.raft_node.specs.declared.node_fault.NodeFault.TheVariants.{Down, Refused as Declined}
@@ -30,7 +30,7 @@ use Rattle.node_cells.specs.Upstreams.{HandsOut, Tally}
 use Rattle.wire_bytes.specs.Limits.{number_limit}
 
 module _ {E P : Type 0} where
-  -- where a place was applied, it and the effects that leave come out, else nothing
+  -- if a place was applied, it and its effects come out, else nothing
   abbrev pub IsGiven : ℕ → List E → Outcome E P → Type 0
   IsGiven place effects Quiet = place ≡ 0
   IsGiven place effects (Left p left) = (p ≡ place) × (0 < place) × (left.items ≡ effects)
@@ -51,7 +51,7 @@ abbrev pub CellOf : Machine → Type 0 → Type 0 → Type 0 → Type 0 → Type
 CellOf M Setup Hosted Store U = CellParts Setup Hosted Store M.Body M.Line M.Target M.Effect M.Played U
 
 module _ (M : Machine) {Setup Hosted Store U : Type 0} where
-  -- the node went down, and all that the cell shows is as it was
+  -- the node went down, and all that the cell shows is unchanged
   pub record IsDownAs (c d : CellOf M Setup Hosted Store U) : Type 0 where
     pub ether : d.ether ≡ c.ether
     pub pass : d.pass ≡ c.pass
@@ -70,13 +70,14 @@ module _ (M : Machine) {Setup Hosted Store U : Type 0} where
     pub refused : d.refused ≡ c.refused
     pub same : IsDownAs c d
 
-  -- the node was down, and the cell is as it was
+  -- the node was down, and the cell is unchanged
   abbrev pub WasDown : CellOf M Setup Hosted Store U → CellOf M Setup Hosted Store U → Type 0
   WasDown c d = (c.phase ≡ Up → ⊥) × (d ≡ c)
 
   module _ (tally : U → Tally) where
-    -- One event at the cell's own view: it drew a ticket, what comes out of it by the view is recorded with it, where turns are recorded, the messages that it sent were posted, each
-    -- once, with their numbers, and one line was handed out for each hand among its effects. The node was up, and is.
+    -- One event at the cell's own view: it drew a ticket, what comes out of it by the view is recorded with it, if
+    -- turns are recorded, the messages that it sent were posted, each once, with their numbers, and one line was handed
+    -- out for each hand among its effects. The node was up, and is.
     pub record IsEvent (c : CellOf M Setup Hosted Store U) (e : EventOf M) (o : OutcomeOf M) (d : CellOf M Setup Hosted Store U) : Type 0 where
       pub ticket : ℕ
       pub count : ℕ
@@ -91,7 +92,8 @@ module _ (M : Machine) {Setup Hosted Store U : Type 0} where
       pub was_up : c.phase ≡ Up
       pub is_up : d.phase ≡ Up
 
-    -- what a turn gives: the place that was applied with its effects, as they are recorded, and to whom it posted, and what the posts gave back
+    -- what a turn gives: the place that was applied with its effects, as they are recorded, to whom it posted, and what
+    -- the posts gave back
     pub record IsTurn (c : CellOf M Setup Hosted Store U) (x : NodeInput M.Body M.Line) (output : TurnOutput M.Body M.Effect) (d : CellOf M Setup Hosted Store U) : Type 0 where
       pub outcome : OutcomeOf M
       pub event : IsEvent c (Does x) outcome d
@@ -99,7 +101,8 @@ module _ (M : Machine) {Setup Hosted Store U : Type 0} where
       pub posts : (view_in c).honest ≡ true → output.posted_to.items ≡ map to_of (drop (length (view_in c).state.sent) (view_in d).state.sent)
       pub replaced : GaveBack (view_in d) output.posted_to.items output.replaced.items
 
-    -- A turn that gives nothing. Where there is no room, or no more tickets, nothing changes; a refusal is an event; else the node is down.
+    -- A turn that gives nothing. If there is no room, or no more tickets, nothing changes; a refusal is an event; else
+    -- the node is down.
     abbrev pub IsNoTurn : CellOf M Setup Hosted Store U → NodeInput M.Body M.Line → CellFault → CellOf M Setup Hosted Store U → Type 0
     IsNoTurn c x Memory d = d ≡ c
     IsNoTurn c x Spent d = (d ≡ c) × (number_limit ≤ length (view_in c).turns)
@@ -119,7 +122,7 @@ module _ (M : Machine) {Setup Hosted Store U : Type 0} where
       pub late : from_place ≤ looked.place
       pub applied : (view_in c).honest ≡ true → looked.place ≡ (view_in c).state.applied
 
-    -- A look that gives nothing. Where nothing comes of it for want of room or memory nothing changes; Behind is an event.
+    -- A look that gives nothing. If room or memory runs out nothing changes; Behind is an event.
     abbrev pub IsNoLook : CellOf M Setup Hosted Store U → ℕ → M.Target → CellFault → CellOf M Setup Hosted Store U → Type 0
     IsNoLook c from_place target Memory d = d ≡ c
     IsNoLook c from_place target Spent d = (d ≡ c) × (number_limit ≤ length (view_in c).turns)
@@ -131,7 +134,7 @@ module _ (M : Machine) {Setup Hosted Store U : Type 0} where
     HasLooked c from_place target (Ok looked) d = IsLookedAt c from_place target looked d
     HasLooked c from_place target (Err fault) d = IsNoLook c from_place target fault d
 
-    -- what lay in a mailbox was turned, if something did
+    -- the message in a mailbox was processed, if there was one
     abbrev pub HasHeardIn : CellOf M Setup Hosted Store U → Option (Envelope M.Body) → Result (Option (TurnOutput M.Body M.Effect)) CellFault → CellOf M Setup Hosted Store U → Type 0
     HasHeardIn c None (Ok None) d = d ≡ c
     HasHeardIn c None (Ok (Some output)) d = ⊥
@@ -140,7 +143,7 @@ module _ (M : Machine) {Setup Hosted Store U : Type 0} where
     HasHeardIn c (Some e) (Ok (Some output)) d = IsTurn c (Deliver e) output d
     HasHeardIn c (Some e) (Err fault) d = IsNoTurn c (Deliver e) fault d
 
-    -- One look into a mailbox, and a turn of what lay there.
+    -- One look into a mailbox, and a turn of its message.
     pub record HasDelivered (c : CellOf M Setup Hosted Store U) (from : ℕ) (result : Result (Option (TurnOutput M.Body M.Effect)) CellFault) (d : CellOf M Setup Hosted Store U) : Type 0 where
       pub came : Option (Envelope M.Body)
       pub between : CellOf M Setup Hosted Store U

@@ -1,4 +1,5 @@
--- A node that is not opened yet: what its cell begins from, its opening over a store, and what it leaves where none is.
+-- A node that is not opened yet: the start of its cell, its opening over a store, and what it leaves if it is never
+-- opened.
 use Rattle.std.specs.Prelude.{◌≡◌, ◌<◌, ℕ, suc, [], ◌∷◌, ◌++◌, length, Result, Ok, Err}
 use Rattle.raft_node.specs.declared.node_fault.NodeFault.{NodeFault}
 use Rattle.raft_node.specs.Machine.{Machine}
@@ -29,13 +30,13 @@ module _ {Setup B L T : Type 0} where
     pub looks : looks_of p ≡ []
 
 module _ {Setup B L T U : Type 0} where
-  -- the unopened node behind those that were closed
+  -- the unopened node after those that were closed
   pub record IsNextUnopened (closing : ClosingParts Setup B L T) (u : UnopenedParts Setup B L T U) : Type 0 where
     pub ether : u.ether ≡ closing.ether
     pub node : (view_of u.pass).node ≡ length closing.views
     pub few : length closing.views < closing.ether.size
 
-  -- its view, to which nothing happened, is the last, and all else is as it was
+  -- its view, to which nothing happened, is the last, and all else is unchanged
   pub record HasClosedUnopened (old : ClosingParts Setup B L T) (u : UnopenedParts Setup B L T U) (new : ClosingParts Setup B L T) : Type 0 where
     pub ether : new.ether ≡ old.ether
     pub recording : new.recording ≡ old.recording
@@ -53,7 +54,7 @@ module _ {Setup Hosted Store B L T E P U : Type 0} (k : Keeper Store B) where
       (store : Store) → IsFirst k (suc pass.node) ether.size ether.setup store node → IsFresh k ether pass store upstream recording c
 
 module _ (M : Machine) where
-  -- The record of a node that was never opened: no turns, and the line of a node that nothing happened to.
+  -- The record of a node that was never opened: no turns, and the fields of a node that nothing happened to.
   pub record IsEmptyRecord (size node : ℕ) (r : RecordOf M) : Type 0 where
     pub node_is : r.node ≡ node
     pub turns : r.turns.items ≡ []

@@ -11,7 +11,7 @@ pub record Tally : Type 0 where
   pub handed : List Numbered
   pub failures : ℕ
 
--- one more; a count that stands at the greatest u64 stays there
+-- one more; a count at the greatest u64 stays there
 abbrev pub one_more : ℕ → ℕ
 one_more n = if nat_lt n 18446744073709551615 then suc n else n
 

@@ -1,4 +1,4 @@
-//! What a cell keeps beside its node.
+//! What a cell keeps besides its node.
 ghost use Rattle.std.specs.Prelude.{◌≡◌, ◌≤◌, ◌<◌, ◌+◌, ◌-◌, ◌*◌, ◌↔◌, IsTrue, OnOk, OnErr, suc, true, [], ◌∷◌, length, map, MatchResult, vec_capacity, vec_len};
 ghost use Rattle.ether.specs.Passes.{IsHeard, view_of};
 ghost use Rattle.ether.specs.Plays.{IsFrom};
@@ -63,7 +63,7 @@ impl<M: Hosted> Model for Book<M> {
 }
 
 impl<M: Hosted> Book<M> {
-    /// Tickets for so many turns and one more, and room in the record for them, where turns are recorded.
+    /// Gets tickets for `count` turns and one more, and room in the record for them if turns are recorded.
     pub fn reserve(&mut self, count: u64) -> Result<(), CellFault>
         ensures { MatchResult result (λ _. HasRoom self.old (suc count) self.new)
             (λ e. HasNoRoom self.old (suc count) e self.new) }
@@ -82,7 +82,7 @@ impl<M: Hosted> Book<M> {
         }
     }
 
-    /// An event of the node, ticked, and recorded where turns are recorded.
+    /// Ticks an event of the node, and records it if turns are recorded.
     pub fn note(
         &mut self,
         event: ForRecord<NodeEvent<M::Command, M::Line, M::Target>>,
@@ -106,7 +106,7 @@ impl<M: Hosted> Book<M> {
         keep(self.recording, &mut self.turns, ticket, kept, outcome.kept);
     }
 
-    /// So many restarts, ticked, and recorded where turns are recorded.
+    /// Ticks several restarts, and records them if turns are recorded.
     pub fn note_restarts(&mut self, count: u64)
         requires { (room_for self.old.recording count ≤ self.old.room)
             × (length (view_of self.old.pass).turns + count ≤ number_limit) }
@@ -121,7 +121,7 @@ impl<M: Hosted> Book<M> {
         }
     }
 
-    /// Posts what the node sent. The older messages that lay there are put behind those in `replaced`.
+    /// Posts what the node sent. Older messages that were still in the mailboxes are appended to `replaced`.
     pub fn post_all(
         &mut self,
         messages: Vec<Message<M::Command>>,
@@ -146,8 +146,8 @@ impl<M: Hosted> Book<M> {
         }
     }
 
-    /// Posts a message that the node sent, with the next number. The older message that lay there comes
-    /// back.
+    /// Posts a message that the node sent, with the next number. Returns the older message that was still in the
+    /// mailbox.
     fn post(&mut self, message: Message<M::Command>) -> Option<Envelope<M::Command>>
         requires within { AreWithin (suc self.old.pass.node) self.old.ether.size (message ∷ []) }
         requires stand { (view_of self.old.pass).honest ≡ true
@@ -163,7 +163,7 @@ impl<M: Hosted> Book<M> {
         self.ether.post(&mut self.pass, envelope)
     }
 
-    /// Whether nothing lies in the mailbox to the node at this place, from 0 on. It looks once.
+    /// Whether the mailbox to the node at this place, from 0 on, is empty. This is one look.
     pub fn is_taken(&mut self, to: u64) -> bool
         requires { to < self.old.ether.size }
         ensures { HasSeen self.old to result self.new }
@@ -171,7 +171,7 @@ impl<M: Hosted> Book<M> {
         self.ether.is_taken(&mut self.pass, to)
     }
 
-    /// Takes what lies in the mailbox from the node at this place, from 0 on. It looks once.
+    /// Takes the message in the mailbox from the node at this place, from 0 on. This is one look.
     pub fn take(&mut self, from: u64) -> Option<Envelope<M::Command>>
         requires { from < self.old.ether.size }
         ensures taken { HasTaken self.old from result self.new }
@@ -180,7 +180,7 @@ impl<M: Hosted> Book<M> {
         self.ether.take(&mut self.pass, from)
     }
 
-    /// Two passes in one hand, of one ether: what their nodes did is of one moment.
+    /// Two passes of one ether, held together: what their nodes did is of one moment.
     pub fn meet(&mut self, other: &mut Book<M>)
         requires { self.old.ether ≡ other.old.ether }
         ensures one { IsSameBook self.old self.new }
@@ -203,7 +203,7 @@ impl<M: Hosted> Book<M> {
         (self.pass, self.turns)
     }
 
-    /// Does nothing. A book is of an opened pass, and what is recorded is its view's.
+    /// Does nothing. A book belongs to an opened pass, and what is recorded is its view's.
     pub fn is_whole(&self)
         ensures { IsBook (⟦<M as Described>⟧.machine self.now.ether.setup) self.now }
     {
@@ -218,7 +218,7 @@ impl<M: Hosted> Book<M> {
     }
 }
 
-/// Keeps a turn with this ticket, where turns are recorded.
+/// Keeps a turn with this ticket, if turns are recorded.
 fn keep<B: Wire, L: Drop, T: Drop, E: Drop, P: Drop>(
     recording: Recording,
     turns: &mut Vec<NodeTurn<B, L, T, E, P>>,

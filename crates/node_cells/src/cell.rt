@@ -48,11 +48,11 @@ pub use starting::start_node;
 /// A turn sends at most one message to each node, of which there are at most 7.
 const MOST_SENT: usize = 7;
 
-/// A running node: what a worker keeps under its lock. It has no lock of its own, and no call waits.
+/// A running node: what its worker owns. It has no lock of its own, and no call waits.
 ///
-/// While the node is down the cell shows the state from before the turn, or the refused restart, in
-/// which it went down. A look that waits for a mark is played by a list that begins with all that any
-/// node had committed when the mark was asked.
+/// While the node is down the cell shows the state from before the turn, or the refused restart, in which it went down.
+/// A look that waits for a mark is played by a list that begins with all that any node had committed when the mark was
+/// asked for.
 #[derive(Drop)]
 pub struct NodeCell<M: Marking, S: Stable<M::Command>, U: Upstream> {
     alloc: Global,
@@ -62,7 +62,7 @@ pub struct NodeCell<M: Marking, S: Stable<M::Command>, U: Upstream> {
     phase: Phase<M::Command, M::Line, M::Target>,
     refused: u64,
     shown: NodeFields,
-    /// The greatest number of a mark that this run asked, 0 where it asked none.
+    /// The greatest number of a mark that this run asked for, 0 if it asked for none.
     asked: Number,
     /// The greatest number of a mark of this run among what was applied.
     reached: Option<Number>,
@@ -93,9 +93,9 @@ impl<M: Marking, S: Stable<M::Command>, U: Upstream> Model for NodeCell<M, S, U>
 impl<M: Marking, S: Stable<M::Command>, U: Upstream> NodeCell<M, S, U> {
     /// One event at the cell's own view: its step, its tick, its posts, its hands.
     ///
-    /// Room in the record and tickets are settled first, and then a copy of the input is made, where turns
-    /// are recorded, and room for what the posts give back: where that is refused, the cell is as it was. A
-    /// node that goes down in its turn stays so until it is started again, and its event is recorded then.
+    /// Room in the record and tickets come first, then a copy of the input, if turns are recorded, and room for what
+    /// the posts give back: if memory runs out there, the cell is unchanged. A node that goes down in its turn stays
+    /// down until it is started again, and its event is recorded then.
     pub fn turn(
         &mut self,
         input: NodeInput<M::Command, M::Line>,
@@ -121,14 +121,14 @@ impl<M: Marking, S: Stable<M::Command>, U: Upstream> NodeCell<M, S, U> {
         self.run(recording, input, told, copy, replaced)
     }
 
-    /// Tickets for so many turns and one more, and room in the record for them, where turns are recorded.
+    /// Gets tickets for `count` turns and one more, and room in the record for them if turns are recorded.
     fn make_room(&mut self, count: u64) -> Result<(), CellFault>
         ensures { HasMadeRoom (suc count) self.old result self.new }
     {
         self.book.reserve(count)
     }
 
-    /// One event of a node that is up, where there is room for it. The copy is for the record, and
+    /// One event of a node that is up, when there is room for it. The copy is for the record, and
     /// what the posts give back goes into `replaced`.
     fn run(
         &mut self,
@@ -195,8 +195,7 @@ impl<M: Marking, S: Stable<M::Command>, U: Upstream> NodeCell<M, S, U> {
         }
     }
 
-    /// Takes what lies in the mailbox from the node at this place, from 0 on: node 1 has place 0. It
-    /// looks once.
+    /// Takes the message in the mailbox from the node at this place, from 0 on: node 1 has place 0. This is one look.
     pub fn take(&mut self, from: u64) -> Option<Envelope<M::Command>>
         requires { from < self.old.parts.ether.size }
         ensures taken { HasTakenIn self.old.parts from result self.new.parts }
@@ -207,8 +206,8 @@ impl<M: Marking, S: Stable<M::Command>, U: Upstream> NodeCell<M, S, U> {
         came
     }
 
-    /// Whether what this node posted last to the node at this place, from 0 on, was taken: nothing lies
-    /// in the mailbox. It looks once, and the cell is as it was but for the look.
+    /// Whether the last message that this node posted to the node at this place, from 0 on, was taken, so that the
+    /// mailbox is empty. This is one look, and otherwise the cell is unchanged.
     pub fn is_taken(&mut self, to: u64) -> bool
         requires { to < self.old.parts.ether.size }
         ensures { HasSeenTo self.old.parts to result self.new.parts }
@@ -218,8 +217,8 @@ impl<M: Marking, S: Stable<M::Command>, U: Upstream> NodeCell<M, S, U> {
         taken
     }
 
-    /// Takes what lies in the mailbox from the node at this place, from 0 on, and turns its delivery.
-    /// Nothing where nothing lies there.
+    /// Takes the message in the mailbox from the node at this place, from 0 on, and processes its delivery. Nothing if
+    /// there is none.
     pub fn deliver(
         &mut self,
         from: u64,
@@ -237,8 +236,7 @@ impl<M: Marking, S: Stable<M::Command>, U: Upstream> NodeCell<M, S, U> {
         }
     }
 
-    /// Two cells of one ether in one hand, left as they were: what their nodes did is of one moment of
-    /// one group.
+    /// Two cells of one ether, held together and unchanged: what their nodes did is of one moment of one group.
     pub fn meet(&mut self, other: &mut NodeCell<M, S, U>)
         requires { self.old.parts.ether ≡ other.old.parts.ether }
         ensures one { IsSameCell self.old.parts self.new.parts }
@@ -252,8 +250,7 @@ impl<M: Marking, S: Stable<M::Command>, U: Upstream> NodeCell<M, S, U> {
     }
 }
 
-/// What is answered and what is recorded of an output: to whom its messages are, its effects, and what
-/// comes out.
+/// What is answered and what is recorded of an output: the receivers of its messages, its effects, and what comes out.
 fn outputs<M: Hosted>(
     alloc: Global,
     recording: Recording,

@@ -17,8 +17,8 @@ use std::marker::Model;
 use std::sync::Arc;
 use world_views::merged_records_replay;
 
-/// What the cells of one ether left, node 1's first. There is room for all of them from the start on,
-/// so that no call takes memory.
+/// What the cells of one ether left, node 1's first. There is room for all of them from the start on, so that no call
+/// allocates.
 #[derive(Drop)]
 pub struct Closing<M: Hosted> {
     ether: Arc<Ether<M>, Global>,
@@ -51,7 +51,7 @@ impl<M: Hosted> Model for Closing<M> {
 }
 
 impl<M: Marking> Closing<M> {
-    /// Nothing yet, with room for what all nodes of the ether leave, whose cells all record or all don't.
+    /// Nothing yet, with room for what all nodes of the ether leave; either all their cells record or none does.
     pub fn new(
         alloc: Global,
         ether: &Arc<Ether<M>, Global>,
@@ -72,8 +72,8 @@ impl<M: Marking> Closing<M> {
         })
     }
 
-    /// A cell of this ether is closed, which records as the others do, and whose node is the one behind
-    /// those that were closed.
+    /// Closes a cell of this ether that records as the others do, and whose node is the next after those that were
+    /// closed.
     pub fn close<S: Stable<M::Command>, U: Upstream>(&mut self, cell: NodeCell<M, S, U>)
         requires { IsNextCell self.old cell.parts }
         ensures { HasClosed self.old cell.parts self.new }
@@ -83,8 +83,8 @@ impl<M: Marking> Closing<M> {
         self.records.push_reserved(record);
     }
 
-    /// A node of this ether that was never opened is closed, where it is the one behind those that were closed.
-    /// Its record has no turns.
+    /// Closes a node of this ether that was never opened, and that is the next after those that were closed. Its record
+    /// has no turns.
     pub fn close_unopened<U: Upstream>(&mut self, cell: UnopenedCell<M, U>)
         requires { IsNextUnopened self.old cell }
         ensures { HasClosedUnopened self.old cell self.new }
@@ -94,8 +94,8 @@ impl<M: Marking> Closing<M> {
         self.records.push_reserved(record);
     }
 
-    /// The records of all nodes, which are of one group. They have no turns where none were recorded, or
-    /// the node was never opened.
+    /// The records of all nodes, which are of one group. They have no turns if none were recorded, or the node was
+    /// never opened.
     pub fn finish(self) -> Vec<NodeRecord<M::Command, M::Line, M::Target, M::Effect, M::Played>>
         requires { length self.views ≡ self.ether.size }
         ensures { AreRecordsOfGroup (⟦<M as Described>⟧.machine self.ether.setup) self.recording

@@ -20,7 +20,7 @@ use wire_bytes::{Copied, Number, Wire, copied_all};
 use world_run::Outcome;
 use world_views::{Envelope, NodeInput};
 
-/// The same input.
+/// A copy of an input.
 pub fn copied_input<B: Wire, L: Wire>(
     alloc: Global,
     input: &NodeInput<B, L>,
@@ -43,7 +43,7 @@ pub fn copied_input<B: Wire, L: Wire>(
     })
 }
 
-/// A copy of the input, where turns are recorded.
+/// A copy of the input, if turns are recorded.
 pub fn input_copy<B: Wire, L: Wire>(
     alloc: Global,
     recording: Recording,
@@ -75,7 +75,7 @@ pub fn input_of<B: Wire, L>(input: NodeInput<B, L>) -> Input<Message<B>, B, L>
     }
 }
 
-/// The same inputs, in order.
+/// Copies of inputs, in order.
 pub fn copied_inputs<B: Wire, L: Wire>(
     alloc: Global,
     inputs: &[NodeInput<B, L>],
@@ -89,7 +89,7 @@ pub fn copied_inputs<B: Wire, L: Wire>(
     Ok(copies)
 }
 
-/// Copies of the inputs, in order, where turns are recorded.
+/// Copies of the inputs, in order, if turns are recorded.
 pub fn input_copies<B: Wire, L: Wire>(
     alloc: Global,
     recording: Recording,
@@ -104,7 +104,7 @@ pub fn input_copies<B: Wire, L: Wire>(
     }
 }
 
-/// The inputs as a node takes them, in order, and as clauses see them.
+/// The inputs as a node takes them, in order, and the same for clauses.
 pub fn inputs_of<B: Wire, L: Drop, T>(
     alloc: Global,
     inputs: Vec<NodeInput<B, L>>,
@@ -122,15 +122,14 @@ pub fn inputs_of<B: Wire, L: Drop, T>(
     Ok((taken, all_told))
 }
 
-/// The first of these, if there is one.
+/// The first item, if there is one.
 pub fn first_of<A: Drop>(all: Vec<A>) -> Option<A>
     ensures { result ≡ first_in all.items }
 {
     all.into_iter().next()
 }
 
-/// What comes out where a place was applied, or none, and these effects leave: the effects, and what is
-/// recorded.
+/// What comes out when a place was applied, or none, with these effects: the effects, and what is recorded.
 pub fn outcome_of<E: Copied, P>(
     alloc: Global,
     recording: Recording,
@@ -158,7 +157,7 @@ pub fn outcome_of<E: Copied, P>(
     }
 }
 
-/// The effects that leave, and for clauses alone that they do.
+/// The effects, and a record of them for clauses only.
 fn told_left<E, P>(place: Number, effects: Vec<E>) -> (Vec<E>, ForRecord<Outcome<E, P>>)
     ensures told { (result.0 ≡ effects) × (result.1.told.value ≡ Left place effects) }
     ensures none { result.1.kept ≡ None }
@@ -196,7 +195,7 @@ pub fn played_of<E, P: Copied>(
     }
 }
 
-/// The lines that are played, and for clauses alone that they are.
+/// The lines that are played, and a record of them for clauses only.
 fn told_looked<E, P>(place: Number, lines: Vec<P>) -> (Vec<P>, ForRecord<Outcome<E, P>>)
     ensures told { (result.0 ≡ lines) × (result.1.told.value ≡ Looked place lines) }
     ensures none { result.1.kept ≡ None }
@@ -209,7 +208,7 @@ fn told_looked<E, P>(place: Number, lines: Vec<P>) -> (Vec<P>, ForRecord<Outcome
     (lines, ForRecord { told, kept: None })
 }
 
-/// What an answer is in the record.
+/// An answer as it is in the record.
 pub fn outcome_by<E, P>(answer: &Result<(), Refusal>) -> Outcome<E, P>
     ensures { result ≡ outcome_by answer.now }
 {
@@ -219,7 +218,7 @@ pub fn outcome_by<E, P>(answer: &Result<(), Refusal>) -> Outcome<E, P>
     }
 }
 
-/// To whom these messages are, in order.
+/// The receivers of these messages, in order.
 pub fn addressees<B: Wire>(alloc: Global, messages: &[Message<B>]) -> Result<Vec<u8>, AllocError>
     ensures { IfOk result (λ v. v.items ≡ map to_of messages.now) }
 {

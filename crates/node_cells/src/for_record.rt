@@ -1,9 +1,9 @@
-//! What goes into the record of a cell, where turns are recorded.
+//! What goes into the record of a cell, if turns are recorded.
 ghost use Rattle.std.specs.Prelude.{◌≡◌, Some};
 
 use std::snapshot::Snapshot;
 
-/// A value of the record: as clauses see it always, and the value itself where turns are recorded.
+/// A value of the record: clauses see it always, and the value itself exists if turns are recorded.
 #[derive(Drop)]
 pub struct ForRecord<T> {
     pub told: Snapshot<T>,
@@ -11,7 +11,7 @@ pub struct ForRecord<T> {
 }
 
 impl<T> ForRecord<T> {
-    /// A value that is there anyway.
+    /// A value that exists anyway.
     pub fn of(value: T) -> Self
         ensures { (result.told.value ≡ value) × (result.kept ≡ Some value) }
     {

@@ -1,7 +1,6 @@
-//! Nodes that run: each with its pass at the ether, its record, and where its lines go.
-//! Stands under records and node_threads.
-//! Each turn, look and restart is events at the node's own view; over an honest store what comes out of each is in
-//! the record, where the cell records, and what it sent was posted once; each line that leaves is one call of the
+//! Nodes that run: each with its pass at the ether, its record, and where its lines go. records and node_threads use
+//! it. Each turn, look and restart is events at the node's own view; over an honest store what comes out of each is in
+//! the record, if the cell records, and what it sent was posted once; each line that leaves is one call of the
 //! upstream, in order. Each mark has a new number, and a look that waits for one is played by a list that has it.
 #![tactic(auto)]
 

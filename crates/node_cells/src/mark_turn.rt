@@ -1,8 +1,8 @@
-//! What comes of the turn that asks for a mark.
+//! The result of a turn that asks for a mark.
 use crate::record::TurnOutput;
 use wire_bytes::Wire;
 
-/// What comes of the turn that asks for a mark.
+/// The result of a turn that asks for a mark.
 #[derive(Drop)]
 pub struct MarkTurn<B: Wire, E> {
     /// The mark's number.

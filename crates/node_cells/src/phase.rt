@@ -14,21 +14,21 @@ use node_steps::Refusal;
 use wire_bytes::Wire;
 use world_views::{NodeEvent, NodeInput};
 
-/// Whether the node of a cell is up, and if not, where it went down. Of the inputs there are copies
-/// where turns are recorded.
+/// Whether the node of a cell is up, and if not, where it went down. There are copies of the inputs
+/// if turns are recorded.
 #[derive(Drop)]
 pub enum Phase<B: Wire, L, T> {
     Up,
-    /// In a turn of this input, and whether its step was done.
+    /// In a turn of this input; and whether its step was done.
     DownInTurn(ToldInput<B, L, T>, Option<NodeInput<B, L>>, bool),
-    /// As these inputs were saved together, one at least: none of them may have been saved, or all. The
-    /// answer of each once they are.
+    /// While these inputs, at least one, were saved together: either none of them was saved, or all were. The answer
+    /// that each has once they are.
     DownInTurns(Vec<ToldInput<B, L, T>>, Vec<NodeInput<B, L>>, Vec<Result<(), Refusal>>),
     /// In a restart of a node that was up.
     DownInRestart,
 }
 
-/// What it is after a restart that failed.
+/// The phase after a restart that failed.
 pub fn fallen<B: Wire, L, T>(phase: Phase<B, L, T>) -> Phase<B, L, T>
     ensures { result ≡ fallen phase }
 {
@@ -39,7 +39,7 @@ pub fn fallen<B: Wire, L, T>(phase: Phase<B, L, T>) -> Phase<B, L, T>
 }
 
 impl<B: Wire, L, T> Phase<B, L, T> {
-    /// How many events a restart publishes at most, beside a Restart for each earlier one that failed.
+    /// How many events a restart publishes at most, not counting a Restart for each earlier one that failed.
     pub fn most_events(&self) -> u64
         ensures { result ≡ firsts_at_most self.now }
     {
@@ -50,8 +50,8 @@ impl<B: Wire, L, T> Phase<B, L, T> {
     }
 }
 
-/// What it is where a node went down as these inputs were to be saved together: in all of them, with the
-/// answers that they have once they are saved; or where no save was tried, in the first of them.
+/// The phase after a node went down when these inputs were to be saved together: in all of them, with the answers that
+/// they have once they are saved; or, if no save was tried, in the first of them.
 pub fn down_in<B: Wire, L: Drop, T>(
     mut inputs: Vec<ToldInput<B, L, T>>,
     copies: Vec<NodeInput<B, L>>,
@@ -68,9 +68,8 @@ pub fn down_in<B: Wire, L: Drop, T>(
     }
 }
 
-/// The first event of a restart, where no inputs were saved together: where the node went down in a turn,
-/// that turn is part of it, saved where its step was done, or where the store does not hold what the node
-/// had in memory.
+/// The first event of a restart, if no inputs were saved together: if the node went down in a turn, that turn is part
+/// of it, saved if its step was done, or if the store does not hold what the node had in memory.
 pub fn first_event<B: Wire, L: Drop, T>(
     phase: Phase<B, L, T>,
     same: bool,

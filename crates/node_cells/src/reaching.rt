@@ -14,7 +14,7 @@ pub fn larger(one: Number, other: Number) -> Number
     if one < other { other } else { one }
 }
 
-/// The number of the mark that an input asks, 0 where it asks none.
+/// The number of the mark that an input asks for, 0 if it asks for none.
 pub fn asks<M: Marking>(input: &NodeInput<M::Command, M::Line>) -> Number
     ensures { result ≡ asks M.marked input.now }
 {
@@ -27,7 +27,7 @@ pub fn asks<M: Marking>(input: &NodeInput<M::Command, M::Line>) -> Number
     }
 }
 
-/// The greatest number of a mark that was asked, once these inputs were, too.
+/// The greatest number of a mark that was asked for, after these inputs, too.
 pub fn asked_by_all<M: Marking>(most: Number, inputs: &[NodeInput<M::Command, M::Line>]) -> Number
     ensures { result ≡ asked_by_all M.marked most inputs.now }
 {
@@ -48,8 +48,8 @@ pub fn is_reached(reached: Option<Number>, number: u64) -> bool
     }
 }
 
-/// The greatest number that is reached where this was, and the node has applied up to its place, which was that place
-/// or the one before.
+/// The greatest number that is reached, given the one before, once the node has applied up to its place, which was that
+/// place or the one before.
 pub fn reached_after<M: Marking>(
     reached: Option<Number>,
     node: NodeId,
@@ -77,7 +77,7 @@ fn mark_at<M: Marking>(log: &Log<M::Command>, place: Number) -> Option<Mark>
     M::marked(log.body(place).get())
 }
 
-/// The greatest number, once this was applied: a mark of this run of this node counts.
+/// The greatest number, after this was applied: a mark of this run of this node counts.
 fn with_mark(
     reached: Option<Number>,
     node: NodeId,

@@ -10,7 +10,7 @@ use world_views::{Envelope, NodeEvent};
 pub enum Recording {
     /// Each turn is kept in memory until the cell is closed.
     On,
-    /// None is: the record that the cell leaves has no turns.
+    /// None is: the record of the cell has no turns.
     Off,
 }
 
@@ -20,7 +20,7 @@ pub struct NodeTurn<B: Wire, L, T, E, P> {
     /// Its place among the turns of all nodes of the ether.
     pub ticket: u64,
     pub event: NodeEvent<B, L, T>,
-    /// What the turn itself gave.
+    /// The result of the turn itself.
     pub outcome: Outcome<E, P>,
 }
 
@@ -28,20 +28,20 @@ pub struct NodeTurn<B: Wire, L, T, E, P> {
 #[derive(Drop)]
 pub struct NodeRecord<B: Wire, L, T, E, P> {
     pub node: NodeId,
-    /// Its turns, the first first; none where they were not recorded.
+    /// Its turns, the first first; none if they were not recorded.
     pub turns: Vec<NodeTurn<B, L, T, E, P>>,
     /// What it was at the end.
     pub state: NodeFields,
 }
 
-/// What comes of a turn.
+/// The result of a turn.
 #[derive(Drop)]
 pub struct TurnOutput<B: Wire, E> {
-    /// To whom its messages were posted, in order: one message may replace another.
+    /// The receivers of its messages, in order: one message may replace another.
     pub posted_to: Vec<u8>,
     /// The older messages that its posts replaced, in order: nobody took them.
     pub replaced: Vec<Envelope<B>>,
-    /// The place that was applied, 0 where none was.
+    /// The place that was applied, 0 if there is none.
     pub place: Number,
     /// The effects that leave, in order.
     pub effects: Vec<E>,

@@ -1,4 +1,4 @@
-//! What a node had in memory as it went down.
+//! What a node had in memory when it went down.
 ghost use Rattle.std.specs.Prelude.{◌≡◌, ◌-◌, ◌↔◌, IfOk, IsTrue, min};
 ghost use Rattle.raft_log.specs.Seen.{seen};
 ghost use Rattle.node_cells.specs.Remembering.{Remembers, same_terms};
@@ -8,7 +8,7 @@ use raft_log::{Log, NodeId, NodeState};
 use std::alloc::{AllocError, Global};
 use wire_bytes::{Number, Wire};
 
-/// What tells a state from the one that a step made of it: of the log the terms alone.
+/// What distinguishes a state from the one after a step: of the log only the terms are needed.
 #[derive(Drop)]
 pub struct Remembered {
     pub boot: Number,
@@ -18,7 +18,7 @@ pub struct Remembered {
 }
 
 impl Remembered {
-    /// What this state has of that.
+    /// Remembers this state.
     pub fn of<B: Wire>(alloc: Global, state: &NodeState<B>) -> Result<Self, AllocError>
         ensures { IfOk result (λ r. Remembers r state.now) }
     {
@@ -43,7 +43,7 @@ impl Remembered {
             && same_terms(&self.terms, &state.log)
     }
 
-    /// How many runs were begun between this and a later run, at most so many.
+    /// How many runs were begun between this and a later run, up to a limit.
     pub fn runs_until<B: Wire>(&self, state: &NodeState<B>, limit: u64) -> u64
         ensures { result ≡ min (state.now.standing.boot - self.now.boot - 1) limit }
     {

@@ -1,4 +1,4 @@
-//! An input that is gone, as clauses see it.
+//! An input that is gone, for clauses only.
 ghost use Rattle.std.specs.Prelude.{◌≡◌};
 ghost use Rattle.world_views.specs.declared.node_event.NodeEvent.TheVariants.{Does, StopIn};
 ghost use Rattle.node_cells.specs.declared.record.Recording.{Recording};
@@ -10,7 +10,7 @@ use std::snapshot::Snapshot;
 use wire_bytes::Wire;
 use world_views::{NodeEvent, NodeInput};
 
-/// An input of a node for clauses alone, with each event that it may come to: it has no bytes.
+/// An input of a node for clauses only, with each event that it may lead to: it has no bytes.
 #[derive(Drop)]
 pub struct ToldInput<B: Wire, L, T> {
     input: Snapshot<NodeInput<B, L>>,
@@ -35,7 +35,7 @@ impl<B: Wire, L, T> Model for ToldInput<B, L, T> {
 }
 
 impl<B: Wire, L, T> ToldInput<B, L, T> {
-    /// The input, told to clauses, and given back.
+    /// Returns the input, and remembers it for clauses.
     pub fn of(input: NodeInput<B, L>) -> (NodeInput<B, L>, Self)
         ensures { (result.0 ≡ input) × (result.1 ≡ input) }
     {
@@ -51,7 +51,7 @@ impl<B: Wire, L, T> ToldInput<B, L, T> {
         (input, told)
     }
 
-    /// That it is done, for the record, where the copy is of it.
+    /// For the record: the input is done, with its copy.
     pub fn done(self, copy: Option<NodeInput<B, L>>) -> ForRecord<NodeEvent<B, L, T>>
         ensures told { result.told.value ≡ Does self }
         ensures kept { (r : Recording) → IsCopy r self copy → IsKept r result }
@@ -65,8 +65,7 @@ impl<B: Wire, L, T> ToldInput<B, L, T> {
         }
     }
 
-    /// That the node stops in it, before it is saved or after that, for the record, where the copy is
-    /// of it.
+    /// For the record: the node stops in the input, before it is saved or after that, with its copy.
     pub fn stopped(
         self,
         copy: Option<NodeInput<B, L>>,
@@ -90,7 +89,7 @@ impl<B: Wire, L, T> ToldInput<B, L, T> {
     }
 }
 
-/// The input, and that it is done, for clauses.
+/// The input, and for clauses that it is done.
 fn told_done<B: Wire, L, T>(
     input: NodeInput<B, L>,
 ) -> (NodeInput<B, L>, Snapshot<NodeEvent<B, L, T>>)
@@ -104,7 +103,7 @@ fn told_done<B: Wire, L, T>(
     (input, told)
 }
 
-/// The input, and that the node stops in it, for clauses.
+/// The input, and for clauses that the node stops in it.
 fn told_stop<B: Wire, L, T>(
     input: NodeInput<B, L>,
     saved: bool,

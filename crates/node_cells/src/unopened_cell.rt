@@ -18,11 +18,10 @@ use std::marker::Model;
 use std::sync::Arc;
 use wire_bytes::Number;
 
-/// What a node's cell begins from, where its store is not there yet: its pass, to which nothing happened,
-/// and where its lines will go. Nobody takes from its mailboxes meanwhile: what is posted there replaces
-/// what lay there before.
+/// The start of a node's cell whose store is not there yet: its pass, to which nothing happened, and where its lines
+/// will go. Nobody takes from its mailboxes meanwhile: what is posted there replaces what was there before.
 ///
-/// It becomes a `NodeCell` by `open`, which may be tried again and again, or is closed as it is.
+/// `open` makes it a `NodeCell` and may be tried again and again; or it is closed unopened.
 #[derive(Drop)]
 pub struct UnopenedCell<M: Marking, U: Upstream> {
     alloc: Global,
@@ -74,8 +73,8 @@ impl<M: Marking, U: Upstream> UnopenedCell<M, U> {
         }
     }
 
-    /// The node is started over a store, and its cell is opened. Where it can't be started, the store is
-    /// dropped, and all else is as it was: it may be tried again over another.
+    /// Starts the node over a store, and opens its cell. If it can't be started, the store is dropped, and all else is
+    /// unchanged: it may be tried again over another.
     pub fn open<S: Stable<M::Command>>(
         self,
         store: S,

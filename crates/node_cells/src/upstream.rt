@@ -17,7 +17,7 @@ pub enum UpstreamFault {
 
 /// Takes the numbered lines that a node hands out upstream.
 pub trait Upstream: Drop {
-    /// What was handed out so far, in order, and how many calls failed: a count that stays at the
+    /// What was handed out so far, in order, and how many calls failed: a count that stops at the
     /// greatest u64.
     ghost tally: { Self → Tally };
 

@@ -1,4 +1,4 @@
--- What a note is to its node, and how a node stands.
+-- What a note is to its node, and the state of a node.
 use Rattle.std.specs.Prelude.{ℕ, Bool, true, false, length, Option, Some, None, option_map}
 use Rattle.raft_log.specs.declared.role.Role.{Role}
 use Rattle.raft_log.specs.declared.role.Role.TheVariants.{Follower, Candidate, Leader}
@@ -11,7 +11,7 @@ use Rattle.node_notes.specs.declared.note.Note.{Note}
 use Rattle.node_notes.specs.declared.note.Note.TheVariants.{Timeout, Beat, Ask, Opened, Closed, Heard, Claim, Wake, Restart, End}
 use Rattle.node_notes.specs.declared.status.Status.{Status}
 
--- what happens to the node by a note; nothing where it is for the worker
+-- what happens to the node by a note; nothing if it is for the worker
 abbrev pub input_of : {B L : Type 0} → Note B L → Option (NodeInput B L)
 input_of (Timeout contacts) = Some input.Timeout
 input_of Beat = Some input.Beat
@@ -24,7 +24,7 @@ input_of Wake = None
 input_of Restart = None
 input_of End = None
 
--- how a node of this state stands
+-- the status of a node in this state
 abbrev pub status_of : {B : Type 0} → NodeState B → Option ℕ → Option Cause → Status
 status_of state next_claim down = record {
   role = role_of state.standing.position;

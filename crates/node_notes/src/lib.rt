@@ -1,6 +1,6 @@
-//! What the driver of a bouncer tells a node's worker, and what the worker tells the driver.
-//! Stands under driver, node_threads and bouncer_run.
-//! What a note is to its node, how a node stands, and whether it leads and is up, are the definitions'.
+//! What the driver of a bouncer sends to a node's worker, and what the worker reports. driver, node_threads and
+//! bouncer_run use it. What a note is to its node, the state of a node, and whether it leads and is up, are the
+//! definitions'.
 #![tactic(auto)]
 
 mod note;

@@ -1,20 +1,20 @@
-//! What a worker is told.
+//! Notes to a worker.
 ghost use Rattle.std.specs.Prelude.{◌≡◌};
 ghost use Rattle.node_notes.specs.Notes.{input_of};
 
 use wire_bytes::{Moment, Wire};
 use world_views::NodeInput;
 
-/// What a node's worker is told: what happens to its node, but for messages, which it takes from the
-/// node's mailboxes; or what the worker itself is to do.
+/// A note to a node's worker: what happens to its node, except messages, which it takes from the node's mailboxes; or
+/// what the worker itself is to do.
 #[derive(Drop)]
 pub enum Note<B: Wire, L> {
-    /// The node waited too long for a leader: its worker asks for votes, unless it has heard of a leader more
-    /// often than this by then, and so since the driver counted.
+    /// The node waited too long for a leader: its worker asks for votes, unless by then it has heard of a leader more
+    /// often than this, and so since the driver counted.
     Timeout(u64),
-    /// The node, where it leads, sends to all others.
+    /// The node, if it leads, sends to all others.
     Beat,
-    /// A client asks, or word comes that a node is gone.
+    /// A client asks, or it is known that a node is gone.
     Ask(B),
     /// The upstream session is registered.
     Opened,
@@ -24,7 +24,7 @@ pub enum Note<B: Wire, L> {
     Heard(Moment, L),
     /// The next line for upstream is claimed.
     Claim,
-    /// Messages may lie in the node's mailboxes.
+    /// Messages may be in the node's mailboxes.
     Wake,
     /// The node is down, and is started again from its store.
     Restart,
@@ -33,7 +33,7 @@ pub enum Note<B: Wire, L> {
 }
 
 impl<B: Wire, L> Note<B, L> {
-    /// What happens to the node by this note; nothing where the note is for the worker.
+    /// What happens to the node by this note; nothing if the note is for the worker.
     pub fn into_input(self) -> Option<NodeInput<B, L>>
         ensures { result ≡ input_of self }
     {

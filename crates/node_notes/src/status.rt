@@ -1,4 +1,4 @@
-//! What is told of a node.
+//! The state of a node, for its driver.
 ghost use Rattle.std.specs.Prelude.{◌≡◌};
 ghost use Rattle.std.specs.Prelude.{option_map};
 ghost use Rattle.raft_log.specs.Positions.{live_of};
@@ -8,7 +8,7 @@ use raft_log::{NodeState, Position, Role};
 use raft_node::Cause;
 use wire_bytes::{Number, SessionId, Wire};
 
-/// How a node stands, as its driver has to know it.
+/// The state of a node, as its driver has to know it.
 #[derive(Clone, Copy)]
 pub struct Status {
     pub role: Role,
@@ -18,16 +18,16 @@ pub struct Status {
     pub last: Number,
     pub commit: Number,
     pub applied: Number,
-    /// The upstream session that it holds, where it leads.
+    /// The upstream session that it holds, if it leads.
     pub session: Option<SessionId>,
-    /// The number of the line that is to be claimed next, where one is.
+    /// The number of the line to be claimed next, if there is one.
     pub next_claim: Option<Number>,
     /// Why it is down, if it is.
     pub down: Option<Cause>,
 }
 
 impl Status {
-    /// How a node of this state stands.
+    /// The status of a node in this state.
     pub fn of<B: Wire>(
         state: &NodeState<B>,
         next_claim: Option<Number>,

@@ -1,4 +1,4 @@
--- How the step of a message comes together.
+-- How the step of a message is put together.
 use Rattle.std.proofs.Common.{◌≡◌, ◌≤◌, ◌<◌, ℕ, Bool, true, false, nat_lt, List, [], ◌∷◌, length, take, None, Some, Result, Ok, Err, IfOk, refl, sym, ap, ◌∙◌, subst, arith}
 use Rattle.std.proofs.lemmas.Bool.{cond-true, cond-false, ltb-true}
 use Rattle.std.specs.Prelude.{if◌then◌else◌}
@@ -123,7 +123,7 @@ module _ {B : Type 0} where
       as_kind (AppendReply ok place) w = w
       as_kind (Forward body) w = w
 
-  -- what neither commits nor changes the log keeps what was committed
+  -- a step that neither commits nor changes the log keeps what was committed
   keeps : (f : Node B → Node B) (s : Standing) (log : List (Entry B)) (step : Step B) → Prepares f s log step
       → (f (node_of s log [])).log ≡ log → (f (node_of s log [])).commit ≡ s.commit → KeepsCommitted s log step
   keeps f s log step p same commit =
@@ -159,7 +159,7 @@ module _ {B : Type 0} where
   by_kind blank size i from t s log step kind k e h =
       subst (λ (x : Kind B). IsStep (λ n. handled blank size i n (message t from i x) x) s log step) (sym e) h
 
--- what follows from three facts where a call has not failed
+-- what follows from three facts if a call has not failed
 pub ok_split : {A E : Type 0} {P Q R S : A → Type 0} (r : Result A E) → ((x : A) → P x → Q x → R x → S x) → IfOk r P → IfOk r Q → IfOk r R → IfOk r S
 ok_split (Ok x) f p q w = f x p q w
 ok_split (Err e) f p q w = tt

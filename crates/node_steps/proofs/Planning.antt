@@ -1,4 +1,4 @@
--- How steps and plans come together.
+-- How steps and plans fit together.
 use Rattle.std.proofs.Common.{◌≡◌, ℕ, suc, ◌^◌, Bool, true, false, ◌&&◌, nat_le, List, length, Option, None, Some, Result, Ok, Err, refl, sym, ap, ◌∙◌, arith}
 use Rattle.std.proofs.lemmas.Bool.{cond-true, cond-false}
 use Rattle.std.specs.Option.{is_some}
@@ -34,19 +34,19 @@ leads (position.Follower leader) h = absurd cc
 leads position.Candidate h = absurd cc
 leads (position.Leader live) h = (refl, refl)
 
--- who holds a session leads
+-- a node that holds a session leads
 pub holds : (p : Position) (live : Live) → live_of p ≡ Some live → is_leader (role_of p) ≡ true
 holds (position.Follower leader) live h = absurd cc
 holds position.Candidate live h = absurd cc
 holds (position.Leader l) live h = refl
 
 module _ {B : Type 0} (standing : Standing) (log : List (Entry B)) where
-  -- what comes of a definition is the step of a plan that comes to it
+  -- the result of a definition is the step of a plan with that result
   pub comes : (plan : Node B → Plan B) (f : Node B → Node B) (step : Step B) → Prepares f standing log step → IsSavable standing log step
       → ((sent : List (Message B)) → plan (node_of standing log sent) ≡ Goes (f (node_of standing log sent))) → IsStepOf plan standing log step
   comes plan f step h savable same = record { goes = λ sent. same sent ∙ sym (ap Goes (h sent)); savable = savable }
 
-  -- so is a still step that of a plan which comes to nothing
+  -- a step that changes nothing is that of a plan that does nothing
   pub stays : (plan : Node B → Plan B) (step : Step B) → IsSending standing log [] step
       → ((sent : List (Message B)) → plan (node_of standing log sent) ≡ Goes (node_of standing log sent)) → IsStepOf plan standing log step
   stays plan step h same =
@@ -73,7 +73,7 @@ module _ {B : Type 0} (standing : Standing) (log : List (Entry B)) where
       let k = leads standing.position h in
       leads_so sent live attempts (role_of standing.position) (leader_of standing.position) k.0 k.1
 
-  -- the step that appends a body of a leader's own, standing as it is to stand
+  -- the step that appends a body of a leader's own, with the standing that it is to have
   pub own_step : (live : Option Live) (attempts : ℕ) (body : B) (step : Step B) → is_leader (role_of standing.position) ≡ true → nat_le entry_limit (length log) ≡ false
       → IsStep (λ s. on_forward s body) (record standing { position = position.Leader live; attempts = attempts }) log step → IsStepOf (own_plan live attempts body) standing log step
   own_step live attempts body step leading room h =
@@ -93,11 +93,11 @@ abbrev pub session : SessionId → ℕ → Live
 session id next = record { id = id; next = next }
 
 module _ {B : Type 0} (n : Node B) where
-  -- before the terms are spent an election begins, which a leader lets be
+  -- before the terms are spent an election begins, unless the node leads
   pub election_begins : (size i : ℕ) → (not (is_leader n.role) && nat_le (2 ^ 60) n.term) ≡ false → election_plan size i n ≡ Goes (timed_out size i n)
   election_begins size i h = cond-false (not (is_leader n.role) && nat_le (2 ^ 60) n.term) (Declines TermsSpent) (Goes (timed_out size i n)) h
 
-  -- what is asked, where it may be, a leader is known and the log has room
+  -- what is asked, if it may be, a leader is known and the log has room
   pub ask_goes : (i : ℕ) (source : Source) (body : B) → may_ask i n source ≡ true → finds_leader n n.leader ≡ true → (is_leader n.role && is_full n) ≡ false
       → ask_plan i source body n ≡ Goes (ask i n body)
   ask_goes i source body a b c = rw (a, b, c) refl

@@ -7,7 +7,7 @@ use Rattle.raft_log.specs.Logs.{entry_limit}
 use Rattle.raft_log.specs.Node.{Node, is_leader}
 
 module _ {B : Type 0} where
-  -- what a client asks for is asked at its node, in its run, a mark in the run that it names; that a node is gone, anywhere
+  -- a client's request is taken at its node, in its run, a mark in the run that it names; that a node is gone, anywhere
   abbrev pub may_ask : ℕ → Node B → Source → Bool
   may_ask i s (source.Client origin) = origin.0 == i && origin.1 == s.boot
   may_ask i s (source.Run node boot) = node == i && boot == s.boot

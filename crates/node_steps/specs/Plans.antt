@@ -30,12 +30,12 @@ module _ {B : Type 0} where
   election_plan size i s =
       if not (is_leader s.role) && nat_le number_limit s.term then Declines TermsSpent else Goes (timed_out size i s)
 
-  -- a body of a leader's own, with this session and so many attempts made
+  -- a body of a leader's own, with this session and this many attempts made
   abbrev pub own_plan : Option Live → ℕ → B → Node B → Plan B
   own_plan live attempts body s =
       if is_full s then Declines LogFull else Goes (on_forward (record s { live = live; attempts = attempts }) body)
 
-  -- a body that who may bring it asks for
+  -- a body that is asked for by someone who may bring it
   abbrev pub ask_plan : ℕ → Source → B → Node B → Plan B
   ask_plan i source body s =
       if may_ask i s source
@@ -48,7 +48,7 @@ module _ {B : Type 0} where
   abbrev pub if_leading : Node B → Plan B → Plan B
   if_leading s plan = if is_leader s.role then plan else Goes s
 
-  -- a session is opened where none is live, by the body of its id
+  -- a session is opened if none is live, by the body of its id
   abbrev pub opening : (SessionId → B) → Node B → Option Live → Plan B
   opening opened s None =
       if nat_le number_limit s.attempts
@@ -56,7 +56,7 @@ module _ {B : Type 0} where
       else own_plan (Some (new_session s)) (suc s.attempts) (opened (new_session s).id) s
   opening opened s (Some live) = Goes s
 
-  -- a leader opens a session where none is live; another node does nothing
+  -- a leader opens a session if none is live; another node does nothing
   abbrev pub open_plan : (SessionId → B) → Node B → Plan B
   open_plan opened s = if_leading s (opening opened s s.live)
 
@@ -88,12 +88,12 @@ module _ {B : Type 0} where
   abbrev pub claim_plan : (SessionId → ℕ → B) → Option ℕ → Node B → Plan B
   claim_plan claim number s = if_leading s (claiming claim number s s.live)
 
-  -- a plan comes to this step, which may be saved
+  -- a plan has this step, which may be saved
   pub record IsStepOf (plan : Node B → Plan B) (standing : Standing) (log : List (Entry B)) (step : Step B) : Type 0 where
     pub goes : (sent : List (Message B)) → plan (node_of standing log sent) ≡ Goes (node_of step.standing (log_after log step) (sent ++ step.messages.items))
     pub savable : IsSavable standing log step
 
-  -- a plan is prepared as a step, or is declined; memory is wanting only for a plan that is not declined
+  -- a plan is prepared as a step, or is declined; memory may run out only for a plan that is not declined
   abbrev pub IsPrepared : (Node B → Plan B) → Standing → List (Entry B) → Result (Step B) Unprepared → Type 0
   IsPrepared plan standing log (Ok step) = IsStepOf plan standing log step
   IsPrepared plan standing log (Err (Refused refusal)) = (sent : List (Message B)) → plan (node_of standing log sent) ≡ Declines refusal

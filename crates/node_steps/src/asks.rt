@@ -1,4 +1,4 @@
-//! What a node is about to do when a body is asked of it.
+//! What a node is about to do when it is asked for a body.
 ghost use Rattle.std.specs.Prelude.{◌≡◌, ◌≤◌, ◌&&◌, ℕ, [], length, nat_le};
 ghost use Rattle.raft_log.specs.Logs.{entry_limit};
 ghost use Rattle.raft_log.specs.Node.{is_leader};
@@ -16,12 +16,12 @@ use raft_log::{Log, LoggedBody, NodeId, Standing, Step};
 use std::alloc::Global;
 use wire_bytes::Wire;
 
-/// A client asks, a run marks, or word comes that a node is gone: a leader appends the body, another node
-/// sends it to the leader that it knows. What a client or a run asks is asked at its own node, in its own
-/// run; what the leader alone may bring is not asked.
+/// A client asks, a run marks, or it is known that a node is gone: a leader appends the body, another node sends it to
+/// the leader that it knows. A request of a client or a run is taken only at its own node, in its own run; what only
+/// the leader may bring is not taken.
 ///
-/// Refused with `BadOrigin`, else with `NoLeader` where no leader is known, else with `LogFull` at a leader
-/// whose log takes no more entries.
+/// Refused with `BadOrigin`, else with `NoLeader` if no leader is known, else with `LogFull` at a leader whose log
+/// takes no more entries.
 pub fn on_ask<B: Wire>(
     alloc: Global,
     standing: Standing,
@@ -47,7 +47,7 @@ pub fn on_ask<B: Wire>(
     Ok(replication::ask(alloc, standing, log, id, body)?)
 }
 
-/// Whether a body of this source is asked at this node, in this run of it.
+/// Whether a body of this source may be asked for at this node, in this run of it.
 pub fn may_ask(standing: &Standing, id: NodeId, source: Source) -> bool
     ensures { result ≡ may_ask id (node_of {B = ℕ} standing.now [] []) source }
 {

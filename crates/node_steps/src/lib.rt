@@ -1,7 +1,6 @@
-//! What a node is about to do, before it is saved, whatever machine it hosts.
-//! Stands under raft_node and agreement.
-//! Each step is exactly the definition's case, or is refused exactly where the definition declines, for the reason
-//! that it gives first; what it saves fits a store.
+//! What a node is about to do, before it is saved, whatever machine it hosts. raft_node and agreement use it. Each step
+//! is exactly the definition's case, or is refused exactly if the definition declines, for the first reason that it
+//! gives; what it saves fits a store.
 #![tactic(auto)]
 
 mod asks;

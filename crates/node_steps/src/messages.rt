@@ -10,11 +10,11 @@ use raft_log::{Kind, Log, Message, NodeId, NodeState, Standing, Step};
 use std::alloc::{AllocError, Global};
 use wire_bytes::{Number, Wire};
 
-/// A message comes. One of a larger term first sets the term: section 5.1 of the Raft paper, and "All
-/// Servers" in its Figure 2. Then it is handled by its kind. One that is not to this node, or not from
-/// another of its group, changes nothing.
+/// A message comes. If its term is larger, the term is set first: section 5.1 of the Raft paper, and "All Servers" in
+/// its Figure 2. Then the message is handled by its kind. One that is not to this node, or not from another node of its
+/// group, changes nothing.
 ///
-/// A node that leads by it appends the blank body first (section 8).
+/// A node that becomes leader by it appends the blank body first (section 8).
 pub fn on_message<B: Wire>(
     alloc: Global,
     state: &NodeState<B>,
@@ -58,7 +58,7 @@ fn raised<B: Wire>(state: &NodeState<B>, term: Number) -> Standing
     ensures group { result.peers ≡ state.now.standing.peers }
 {
     let raised = state.raised(term);
-    // what is known of the others stays; so does the size, of which `raised` tells nothing
+    // what is known of the others stays; so does the size, which `raised` does not mention
     Standing {
         peers: state.standing.peers,
         ..raised

@@ -11,9 +11,9 @@ use raft_log::{Live, Log, LoggedBody, Position, Standing, Step};
 use std::alloc::Global;
 use wire_bytes::{Number, Wire};
 
-/// A leader appends a body of its own, and its session becomes this, with so many attempts made.
+/// A leader appends a body of its own, and its session becomes this, with this many attempts made.
 ///
-/// Refused with `LogFull` where the log takes no more entries.
+/// Refused with `LogFull` if the log takes no more entries.
 pub(crate) fn append_own<B: Wire>(
     alloc: Global,
     standing: Standing,

@@ -1,7 +1,7 @@
 //! Why a node does not do what it is asked.
 use wire_bytes::Number;
 
-/// Why a node does not do what it is asked, and stays as it was.
+/// Why a node does not do what it is asked, and is unchanged.
 #[derive(Clone, Copy, Debug, Drop, PartialEq, Eq)]
 pub enum Refusal {
     /// The leader's log takes no more entries.

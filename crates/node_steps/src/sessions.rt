@@ -12,10 +12,10 @@ use raft_log::{Live, Log, Standing, Step};
 use std::alloc::Global;
 use wire_bytes::{LAST_NUMBER, Moment, Number, SessionId};
 
-/// A leader without a session opens its next one, by the body of its id: the term, and the next attempt of
-/// this run. One that has a session and a node that does not lead do nothing.
+/// A leader without a session opens its next one, by the body of its id: the term, and the next attempt of this run. A
+/// leader that has a session does nothing, and neither does a node that does not lead.
 ///
-/// Refused with `TermsSpent` where 2^60 attempts were made, else with `LogFull`.
+/// Refused with `TermsSpent` if 2^60 attempts were made, else with `LogFull`.
 pub fn on_opened<M: Hosted>(
     alloc: Global,
     standing: Standing,

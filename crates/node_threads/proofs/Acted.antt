@@ -1,4 +1,4 @@
--- What a worker does with its node in a round, behind its jobs, as a list of acts.
+-- What a worker does with its node in a round, after its jobs, as a list of acts.
 use Rattle.std.proofs.Common.{◌≡◌, ◌↔◌, inl, inr, ⊎_elim, ℕ, zero, suc, Bool, true, false, List, [], ◌∷◌, ◌++◌, take, Option, refl, sym, ap, ◌∙◌, subst, append_assoc, append-nil}
 use Rattle.std.specs.List.{AllByRecursion}
 use Rattle.wire_bytes.specs.declared.mark.Mark.{Mark}
@@ -96,7 +96,7 @@ module _ (M : Machine) {Setup Hosted Store U : Type 0} (tally : U → Tally) whe
   may_not body false c d h = h
 
 module _ (M : Machine) {Setup Hosted Store U : Type 0} (tally : U → Tally) (marked : M.Body → Option Mark) (mark : Mark → M.Body) (Action : Type 0) where
-  -- ---- behind the jobs
+  -- -- after the jobs
 
   -- Things were done with the node that are no jobs. Each request that waited was asked by them, or waits, and no note was taken up.
   pub record HasGone (a : Account M.Body) (c : CellOf M Setup Hosted Store U) (b : Account M.Body) (d : CellOf M Setup Hosted Store U) : Type 0 where
@@ -191,7 +191,7 @@ module _ (M : Machine) {Setup Hosted Store U : Type 0} (tally : U → Tally) (ma
   gone_before true a c b d h = gone_one a.requests.waiting h.0 a c b d refl h.1.cell h.1.requests
   gone_before false a c b d h = gone_none a c b d h.0 h.1
 
-  -- what a round does behind its jobs
+  -- what a round does after its jobs
   pub gone_round : (forwarded : Option ℕ) (a : Account M.Body) (c : CellOf M Setup Hosted Store U) (leaves : Bool) (b : Account M.Body) (d : CellOf M Setup Hosted Store U)
       → HasGoneRound M tally forwarded a c leaves b d → HasGone a c b d
   gone_round forwarded a c leaves b d h =

@@ -32,7 +32,8 @@ module _ {B : Type 0} where
   all_last term old left before now m many none h =
       sym (ap (λ (l : List (Request B)). last_asked term l now) none) ∙ h ∙ (λ i. last_asked term (take (many i) old) before) ∙ ap (λ (l : List (Request B)). last_asked term l before) (take_min batch_limit old)
 
-  -- the last of those that were asked was asked last, since so many were or none waits any more
+  -- the last of those that were asked was asked last, since the limit is reached or none waits any
+  -- more
   pub last_of_many : (term : ℕ) (old new : List (Request B)) (before now : Option Asked) (n m : ℕ) → m ≡ min batch_limit (length old) → n ≡ 0
       → last_asked term (take n new) now ≡ last_asked term (take m old) before → now ≡ last_asked term (take batch_limit old) before
   last_of_many term old new before now n m many end h = all_last term old (take n new) before now m many (ap (λ k. take k new) end) h
@@ -56,7 +57,7 @@ module _ {B : Type 0} (L : Type 0) where
   asks_many (r ∷ w) = ap suc (asks_many w)
 
 module _ {B L : Type 0} where
-  -- one request more is taken
+  -- one more request is taken
   pub next_taken : (old new : List (Request B)) (note : ℕ) (body : B) (inputs all : List (NodeInput B L)) (n m : ℕ) → n ≡ suc m → old ≡ request note body ∷ new
       → inputs ++ asks_of (take n old) ≡ all → (inputs ++ Ask body ∷ []) ++ asks_of (take m new) ≡ all
   next_taken old new note body inputs all n m next is h =
@@ -66,7 +67,7 @@ module _ {B L : Type 0} where
   none_taken zero w is = (refl, refl)
   none_taken (suc n) w is = (λ i. asks_of (take (suc n) (is i)), is ∙ sym (ap (drop (suc n)) is))
 
-  -- all are, since so many were or none waits any more
+  -- all are, since the limit is reached or none waits any more
   pub all_taken : (old new : List (Request B)) (inputs : List (NodeInput B L)) (n m : ℕ) → m ≡ min batch_limit (length old) → inputs ++ asks_of (take n new) ≡ asks_of (take m old) → drop n new ≡ drop m old
       → asks_of {B = B} {L = L} (take n new) ≡ [] → new ≡ drop n new → TakesFront old inputs new
   all_taken old new inputs n m many taken left none same =

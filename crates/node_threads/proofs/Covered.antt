@@ -8,14 +8,14 @@ use Rattle.node_threads.specs.Taking.Piece.{Together}
 use Rattle.node_threads.specs.Together.{appended}
 
 module _ {H A L T P S C E : Type 0} where
-  -- these pieces hold these jobs, and one piece more holds those that come behind
+  -- these pieces hold these jobs, and one more piece holds those that come after
   pub covers_end : (ps : List (Piece (Job H A L T P S C E) (NodeInput C L))) (p : Piece (Job H A L T P S C E) (NodeInput C L)) (jobs more : List (Job H A L T P S C E))
       → Covers ps jobs → Holds p more → Covers (ps ++ p ∷ []) (jobs ++ more)
   covers_end [] p jobs more none holds = (more, [], ap (λ l. l ++ more) none ∙ sym (append-nil more), holds, refl)
   covers_end (q ∷ ps) p jobs more h holds =
       (h.0, h.1 ++ more, ap (λ l. l ++ more) h.2 ∙ append_assoc h.0 h.1 more, h.3, covers_end ps p h.1 more h.4 holds)
 
-  -- the jobs of the last piece come behind those of the others
+  -- the jobs of the last piece come after those of the others
   record AreSplit (ps : List (Piece (Job H A L T P S C E) (NodeInput C L))) (p : Piece (Job H A L T P S C E) (NodeInput C L)) (jobs : List (Job H A L T P S C E)) : Type 0 where
     pub front : List (Job H A L T P S C E)
     pub back : List (Job H A L T P S C E)
@@ -38,7 +38,7 @@ module _ {H A L T P S C E : Type 0} where
         holds = rest.holds;
       }
 
-  -- a job more, whose input comes behind those that were gathered
+  -- one more job, whose input comes after those that were gathered
   pub covers_more : (ps : List (Piece (Job H A L T P S C E) (NodeInput C L))) (inputs : List (NodeInput C L)) (jobs : List (Job H A L T P S C E)) (j : Job H A L T P S C E) (x : NodeInput C L)
       → appended j ≡ Some x → Covers (ps ++ gathered_piece inputs) jobs → Covers (ps ++ gathered_piece (inputs ++ x ∷ [])) (jobs ++ j ∷ [])
   covers_more ps [] jobs j x is h =

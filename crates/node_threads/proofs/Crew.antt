@@ -31,14 +31,14 @@ module _ {A : Type 0} where
   length_end (y ∷ xs) x = ap suc (length_end xs x)
 
 module _ {A B : Type 0} (R : A → B → Type 0) where
-  -- one pair more
+  -- one more pair
   paired_end : (xs : List A) (ys : List B) (x : A) (y : B) → ArePaired R xs ys → R x y → ArePaired R (xs ++ x ∷ []) (ys ++ y ∷ [])
   paired_end [] [] x y all last = (last, tt)
   paired_end [] (b ∷ ys) x y all last = absurd all
   paired_end (a ∷ xs) [] x y all last = absurd all
   paired_end (a ∷ xs) (b ∷ ys) x y all last = (all.0, paired_end xs ys x y all.1 last)
 
-  -- the pairs of what these items come to
+  -- the pairs of what these items become
   paired_map : {C : Type 0} (f : C → A) (xs : List C) (ys : List B) → ArePaired (λ c y. R (f c) y) xs ys → ArePaired R (map f xs) ys
   paired_map f [] [] all = tt
   paired_map f [] (b ∷ ys) all = absurd all
@@ -140,7 +140,7 @@ module _ {Setup B L T A : Type 0} (f : A → Home Setup B L T) (left : A → Vie
         subst (λ (l : List A). ArePaired left l d.views) (append_assoc done (t ∷ []) ts) r.3,
       )
 
-  -- so where nothing is left yet, and the threads are those of all nodes
+  -- if nothing is left yet, and the threads are those of all nodes
   module _ (c : ClosingParts Setup B L T) (ts : List A) (none : c.views ≡ []) (many : length ts ≡ c.ether.size) where
     no_views : length c.views ≡ 0
     no_views = ap (λ (l : List (View B L T)). length l) none
@@ -159,7 +159,7 @@ module _ {Setup B L T A : Type 0} (f : A → Home Setup B L T) (left : A → Vie
 
 module _ {Hosted Store U O A L T P Setup B E H : Type 0} (k : Keeper Store B) (gives : O → Store → Type 0) (c : ClosingParts Setup B L T) (ts : List H)
     (place : H → Place Hosted Store U O A L T P Setup B E) (none : c.views ≡ []) (many : length ts ≡ c.ether.size) where
-  -- the threads of all nodes may be joined, where nothing is left yet
+  -- the threads of all nodes may be joined, if nothing is left yet
   pub may_join_places : AllFrom (λ i t. IsHome c.ether c.recording i (place_home (place t))) 0 ts
       → CanJoinAll (λ b t. IsNextHome b (place_home (place t))) (λ b t d. HasJoined (IsLeftView k gives (place t)) b d) c ts
   may_join_places homes = may_join_all (λ t. place_home (place t)) (λ t v. IsLeftView k gives (place t) v) c ts none many homes
@@ -204,7 +204,7 @@ module _ {C H : Type 0} (joins : C → H → C → Type 0) where
       subst (λ (l : List H). JoinsAll joins first l now) (sym (append-nil o.done) ∙ o.whole) o.were
 
 module _ {Setup B L T N W A : Type 0} (k : EtherParts Setup) (r : Recording) (home : N → Home Setup B L T) (f : W → N) (h : A → N) where
-  -- Of these workers some run in threads, and these are left.
+  -- Some of these workers run in threads, and these are left.
   pub record HaveBegun (all : List W) (threads : List A) (rest : List W) : Type 0 where
     pub running : AllFrom (λ i t. IsHome k r i (home (h t))) 0 threads
     pub waiting : AllFrom (λ i w. IsHome k r i (home (f w))) (length threads) rest

@@ -26,7 +26,7 @@ module _ (M S U N A L T P Setup C E : RattleType) (marking-M : marking.Ghosts M.
     (copied-Setup : copied.Ghosts Setup.Denot) (wire-C : wire.Ghosts C.Denot) (copied-C : copied.Ghosts C.Denot) (copied-E : copied.Ghosts E.Denot) (wire-A : wire.Ghosts A.Denot)
     (copied-A : copied.Ghosts A.Denot) (wire-L : wire.Ghosts L.Denot) (copied-L : copied.Ghosts L.Denot) (wire-T : wire.Ghosts T.Denot) (copied-T : copied.Ghosts T.Denot)
     (copied-P : copied.Ghosts P.Denot) (stable-S : stable.Ghosts S.Denot C.Denot) (upstream-U : upstream.Ghosts U.Denot) where
-  -- the node of a worker may go to any thread, where its cell may, and its opener
+  -- the node of a worker may go to any thread, if its cell and its opener may
   pub place_send : IsSend M → IsSend S → IsSend U → IsSend N → IsSend L → IsSend T → IsSend P → IsSend Setup → IsSend C → IsSend E → IsSync Setup → IsSync C
       → IsSend (place.the_row M S U N A L T P Setup C E marking-M g machine-M copied-Setup wire-C copied-C copied-E wire-A copied-A wire-L copied-L wire-T copied-T copied-P stable-S upstream-U)
   place_send m s u n l t p setup c e setup-sync c-sync =
@@ -36,7 +36,7 @@ module _ (M S U N A L T P Setup C E : RattleType) (marking-M : marking.Ghosts M.
       recorded_send (enum.Enum (shape here)) here.D here.to here.to_one (enum_send (shape here) ((cell, tt), ((late, (n, tt)), tt)))
 
   module _ (G O : RattleType) where
-    -- so may its worker, where its outlet may
+    -- so may its worker, if its outlet may
     pub worker_send : IsSend M → IsSend S → IsSend U → IsSend N → IsSend G → IsSend O → IsSend L → IsSend T → IsSend P → IsSend Setup → IsSend C → IsSend E → IsSync G → IsSync Setup → IsSync C
         → IsSend (worker.the_row M S U N G O A L T P Setup C E marking-M g machine-M copied-Setup wire-C copied-C copied-E wire-A copied-A wire-L copied-L wire-T copied-T copied-P stable-S upstream-U)
     worker_send m s u n gate outlet l t p setup c e gate-sync setup-sync c-sync =

@@ -1,4 +1,4 @@
--- What holds where a `?` returns a fault.
+-- What holds when a `?` returns a fault.
 use Rattle.std.proofs.Common.{Result, IfOk, IfErr, sym, subst}
 use Rattle.std.specs.Result.{IsErrAnd}
 use Rattle.std.proofs.lemmas.Result.{err_from_is_err_and}

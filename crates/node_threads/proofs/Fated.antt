@@ -1,4 +1,4 @@
--- What becomes of the requests that a worker is told, over several steps.
+-- What becomes of the requests that a worker gets, over several steps.
 use Rattle.std.proofs.Common.{◌≡◌, ◌≤◌, ◌+◌, ◌||◌, ⊎_elim, ℕ, Bool, true, false, List, [], ◌∷◌, ◌++◌, take, take-append-drop, Some, refl, sym, ap, ◌∙◌, subst, append_assoc, append-nil, if◌then◌else◌, nat_eq, arith}
 use Rattle.std.proofs.lemmas.List.Sorted.{IsPermutation-append_comm, IsPermutation-append_left, IsPermutation-append_right, IsPermutation-refl, IsPermutation-to_front, IsPermutation-trans, sum_by-IsPermutation}
 use Rattle.std.proofs.lemmas.List.Sums.{sum_by-append}
@@ -68,7 +68,7 @@ or_false false = refl
 or_false true = refl
 
 module _ {B : Type 0} where
-  -- ---- one step after the other
+  -- -- one step after the other
 
   lost_still : (low high : ℕ) (rs : List (Request B)) → low ≤ high → AllByRecursion (λ (r : Request B). r.note ≤ low) rs → AllByRecursion (λ (r : Request B). r.note ≤ high) rs
   lost_still low high [] le h = h
@@ -178,7 +178,7 @@ module _ {B : Type 0} where
         in_order = λ back ends lost. append-nil q.waiting ∙ ends;
       })
 
-  -- so many of the first that wait were asked
+  -- several of the first that wait were asked
   fate_front : (asked : List (Request B)) (term : ℕ) (q n : Queue B) → q.waiting ≡ asked ++ n.waiting → n.asked ≡ last_asked term asked q.asked → q.lost ≤ n.lost
       → EachHasOneFate [] asked false q n
   fate_front asked term q n is last grows =
@@ -259,7 +259,7 @@ module _ {M A L T P S C E : Type 0} where
       let rest = subst (λ (n : ℕ). EachHasOneFate (requests_by n js) [] (list_any is_restart js) m.requests b.requests) one.1 (fates_by js m b h.2) in
       fates_both (request_by (counted_by j a.done) j) [] (requests_by (counted_by j a.done) js) [] (is_restart j) (list_any is_restart js) a.requests m.requests b.requests one.0 rest
 
-  -- the requests of some jobs, and of those behind them
+  -- the requests of some jobs, and of those after them
   pub requests_both : (js ks : List (Job M A L T P S C E)) (n : ℕ) → requests_by n (js ++ ks) ≡ requests_by n js ++ requests_by (counted_by_all js n) ks
   requests_both [] ks n = refl
   requests_both (j ∷ js) ks n =

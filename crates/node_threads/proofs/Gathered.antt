@@ -1,4 +1,4 @@
--- That inputs were done together, where there are any.
+-- Inputs are processed together, if there are any.
 use Rattle.std.proofs.Common.{◌≤◌, List, [], ◌∷◌, length, Result, arith}
 use Rattle.raft_node.specs.Machine.{Machine}
 use Rattle.world_views.specs.Inputs.{NodeInput}

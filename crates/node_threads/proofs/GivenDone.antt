@@ -1,4 +1,4 @@
--- That what came of an inbox is done, but for what is gathered.
+-- What an inbox gave is done, except what is gathered.
 use Rattle.std.proofs.Common.{◌≡◌, ◌<◌, ◌≤◌, ◌+◌, ◌&&◌, ◌||◌, nat_eq, ⊎_elim, ℕ, Bool, true, false, List, [], ◌∷◌, ◌++◌, length, Option, Some, None, refl, sym, ap, ◌∙◌, subst, arith}
 use Rattle.std.proofs.lemmas.List.{append-nil, length_push}
 use Rattle.std.proofs.lemmas.List.Folds.{list_any-append}
@@ -34,7 +34,7 @@ module _ (M : Machine) {Setup Hosted Store U : Type 0} (tally : U → Tally) whe
         (d : CellOf M Setup Hosted Store U) → HasDoneGiven M tally marked mark gives may left i p c over k q d → IsSameHome c d
     home_after_given left i p c over k q d h = home_after_these h.came left i c k d h.these
 
-    -- where nothing is gathered, nothing is left
+    -- if nothing is gathered, nothing is left
     these_open : (came : List (Next (JobOf M Setup Hosted Action))) (inputs : List (NodeInput M.Body M.Line)) (i : I) (c : CellOf M Setup Hosted Store U) (k : I)
         (d : CellOf M Setup Hosted Store U) → inputs ≡ [] → HasDoneThese M tally marked mark gives may came [] i c k d → HasDoneThese M tally marked mark gives may came (gathered_piece inputs) i c k d
     these_open came inputs i c k d none h =
@@ -96,7 +96,7 @@ module _ (M : Machine) {Setup Hosted Store U : Type 0} (tally : U → Tally) whe
             (λ t. (sym (append-nil pieces) t, jobs ++ sym (for_node_one j goes acts) t)) covers)
             (pieces_end M tally marked mark h.pieces (Alone j) c b d h.done done)
 
-        -- it is a job whose input comes behind those that were gathered
+        -- it is a job whose input comes after those that were gathered
         these_input : (inputs : List (NodeInput M.Body M.Line)) (y : NodeInput M.Body M.Line) → HasDoneThese M tally marked mark gives may came (gathered_piece inputs) i c k b → appended j ≡ Some y
             → HasDoneThese M tally marked mark gives may (came ++ next.Job j ∷ []) (gathered_piece (inputs ++ y ∷ [])) i c l b
         these_input inputs y h is =
@@ -108,7 +108,8 @@ module _ (M : Machine) {Setup Hosted Store U : Type 0} (tally : U → Tally) whe
 
     -- ---- a round, job by job
 
-    -- So many things came in a round so far, by none of which the worker is over, and they are done but for what is gathered; and that may be done together.
+    -- This many things came in a round so far, none of which ends the worker, and they are done except what is
+    -- gathered; and that may be processed together.
     pub record IsTaking (n : ℕ) (gathered : List (NodeInput M.Body M.Line)) (i : I) (p : Account M.Body) (c : CellOf M Setup Hosted Store U) (k : I) (q : Account M.Body)
         (d : CellOf M Setup Hosted Store U) : Type 0 where
       pub came : List (Next (JobOf M Setup Hosted Action))
@@ -136,13 +137,13 @@ module _ (M : Machine) {Setup Hosted Store U : Type 0} (tally : U → Tally) whe
           heeds = refl;
         }
 
-    -- what comes next, for which the inbox might wait where nothing came before it
+    -- what comes next, for which the inbox might wait if nothing came before it
     gave_behind : (n : ℕ) (gathered : List (NodeInput M.Body M.Line)) (i : I) (p : Account M.Body) (c : CellOf M Setup Hosted Store U) (k : I) (q : Account M.Body)
         (d : CellOf M Setup Hosted Store U) (x : Next (JobOf M Setup Hosted Action)) (l : I) → (h : IsTaking n gathered i p c k q d) → gives k (may && nat_eq n 0) x l
         → gives k (waits_behind may h.came) x l
     gave_behind n gathered i p c k q d x l h gave = subst (λ (b : Bool). gives k b x l) (first_waits may h.came n h.count) gave
 
-    -- a round ends behind what came so far
+    -- a round ends after what came so far
     pub taking_stop : (n : ℕ) (gathered : List (NodeInput M.Body M.Line)) (i : I) (p : Account M.Body) (c : CellOf M Setup Hosted Store U) (k : I) (q : Account M.Body)
         (d : CellOf M Setup Hosted Store U) → IsTaking n gathered i p c k q d → 1 ≤ n → n ≤ batch_limit
         → HasDoneGiven M tally marked mark gives may (gathered_piece gathered) i p c false k q d
@@ -176,7 +177,7 @@ module _ (M : Machine) {Setup Hosted Store U : Type 0} (tally : U → Tally) whe
       gave : gives k (waits_behind may h.came) (next.Job j) l
       gave = gave_behind n before i p c k q b (next.Job j) l h given
 
-      -- it is done behind all that was gathered
+      -- it is done after all that was gathered
       behind_these : (e : CellOf M Setup Hosted Store U) → after ≡ [] → is_idle j ≡ false → HasTurnedAll M before b e → HasDone M tally marked mark j e d
           → HasDoneThese M tally marked mark gives may (h.came ++ next.Job j ∷ []) (gathered_piece after) i c l d
       behind_these e none acts turned done =
@@ -245,6 +246,6 @@ module _ (M : Machine) {Setup Hosted Store U : Type 0} (tally : U → Tally) whe
           let long : length after ≡ length before = ap length taken.0 in
           taking_more (alone_these (is_idle j) refl none taken.0 taken.1) (none_ready after d (taken.0 ∙ none)) (omega (arith, long))
 
-      -- one job more was taken up
+      -- one more job was taken up
       pub taking_next : HasTakenUp M tally marked mark j before b after d → IsTaking m after i p c l r d
       taking_next taken = where_taking (leads_in b) refl taken

@@ -24,7 +24,7 @@ module _ (M : Machine) {Setup Hosted Store U : Type 0} (tally : U → Tally) whe
   home_after_turning None c d h = same_home c d h
   home_after_turning (Some x) c d h = home_after_input M tally c x d h
 
-  -- what was taken was turned
+  -- what was taken was processed
   pub looked_in : (c : CellOf M Setup Hosted Store U) (from : ℕ) (next : Option (NodeInput M.Body M.Line)) (b d : CellOf M Setup Hosted Store U) → HasTaken M c from next b → HasTurnedIn M tally next b d
       → HasLookedIn M tally c from d
   looked_in c from next b d h turned =
@@ -46,7 +46,7 @@ module _ (M : Machine) {Setup Hosted Store U : Type 0} (tally : U → Tally) whe
   does_both [] more c b d h k = subst (λ (z : CellOf M Setup Hosted Store U). Does M tally more z d) h k
   does_both (e ∷ es) more c b d h k = (h.0, h.1, does_both es more h.0 b d h.2 k)
 
-  -- one mailbox more is taken, or left
+  -- one more mailbox is taken, or left
   pub takes_next : (left : Option ℕ) (n m : ℕ) (is_it : Bool) (c b d : CellOf M Setup Hosted Store U) → m ≡ suc n → is_it ≡ is_left left n → Does M tally (takes_but left n) c b
       → Does M tally (takes_unless is_it n) b d → Does M tally (takes_but left m) c d
   takes_next left n m is_it c b d next is h k =
@@ -62,7 +62,7 @@ module _ (M : Machine) {Setup Hosted Store U : Type 0} (tally : U → Tally) whe
   pub home_after_taking : (left : Option ℕ) (c d : CellOf M Setup Hosted Store U) → HasTakenBut M tally left c d → IsSameHome c d
   home_after_taking left c d h = home_after (takes_but left c.ether.size) c d h
 
-  -- one place more is applied
+  -- one more place is applied
   applies_end : (n : ℕ) (c b d : CellOf M Setup Hosted Store U) → Does M tally (applies n) c b → HasHadTurn M tally b input.Apply d → Does M tally (applies (suc n)) c d
   applies_end zero c b d h turned = (d, subst (λ (z : CellOf M Setup Hosted Store U). HasHadTurn M tally z input.Apply d) h turned, refl)
   applies_end (suc n) c b d h turned = (h.0, h.1, applies_end n h.0 b d h.2 turned)

@@ -1,4 +1,4 @@
--- That a cell stays its node's, where it marks a place or waits for its mark.
+-- That a cell stays its node's when it marks a place or waits for its mark.
 use Rattle.std.proofs.Common.{ℕ, Bool, true, false, Option, Result, Ok, Err}
 use Rattle.wire_bytes.specs.declared.mark.Mark.{Mark}
 use Rattle.raft_node.specs.declared.input.Looked.{Looked as PlayedAt}

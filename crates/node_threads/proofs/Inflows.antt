@@ -1,11 +1,11 @@
--- That an inflow gave one thing more.
+-- That an inflow gave one more thing.
 use Rattle.std.proofs.Common.{◌≡◌, ◌&&◌, ℕ, zero, suc, Bool, true, false, nat_eq, List, [], ◌∷◌, ◌++◌, length, refl, sym, ap, ◌∙◌, subst, arith}
 use Rattle.std.proofs.Math.Dec.{eqb-suc-zero}
 use Rattle.node_threads.specs.declared.inflow.Next.{Next}
 use Rattle.node_threads.specs.declared.inflow.Next.TheVariants as next
 use Rattle.node_threads.specs.Inflows.{Given, GivenInRound, jobs_in}
 
--- whether an inflow might wait for what comes behind these
+-- whether an inflow might wait for what comes after these
 pub waits_behind : {A : Type 0} → Bool → List A → Bool
 waits_behind may_wait [] = may_wait
 waits_behind may_wait (x ∷ xs) = false
@@ -36,7 +36,7 @@ module _ {I J : Type 0} (gives : I → Bool → Next J → I → Type 0) where
       never [] = refl
       never (y ∷ ys) = refl
 
-  -- so it gave them, whether or not it might wait
+  -- it gave them, whether or not it might wait
   pub given_any : (may_wait : Bool) (xs : List (Next J)) (i k : I) → GivenInRound gives may_wait i xs k → Given gives i xs k
   given_any may_wait [] i k h = h
   given_any may_wait (x ∷ xs) i k h = (may_wait, h.0, h.1, given_any false xs h.0 k h.2)

@@ -81,7 +81,7 @@ module _ {Hosted Store U O A L T P Setup B E V W : Type 0} (k : Keeper Store B) 
   abbrev PartHere : Type 0
   PartHere = Part (PartStore Store O) U V
 
-  -- Of the workers of an ether some began, each with the node of its part, and these passes and parts are left.
+  -- Some of the workers of an ether began, each with the node of its part, and these passes and parts are left.
   pub record AreOpening (ws : List W) (passes : List (Pass B L T)) (parts : List PartHere) : Type 0 where
     pub begun : AllFrom (λ i w. IsBegunOver k e r all i (f w)) 0 ws
     pub news : AllFrom (IsNewPass e) (length ws) passes

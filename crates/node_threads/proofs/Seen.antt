@@ -108,7 +108,7 @@ module _ (M : Machine) {Setup Hosted Store U : Type 0} (tally : U → Tally) whe
   pub asked_none : (a : Account M.Body) (c d : CellOf M Setup Hosted Store U) → HasAskedFirstOf M tally a.requests.waiting false c d → HasAskedOne M tally a false c a d
   asked_none a c d h = record { cell = h; requests = refl }
 
-  -- one request more is asked
+  -- one more request is asked
   pub asks_next : (n : ℕ) (a : Account M.Body) (asked : Bool) (c : CellOf M Setup Hosted Store U) (m : Account M.Body) (e : CellOf M Setup Hosted Store U) (over : Bool) (b : Account M.Body)
       (d : CellOf M Setup Hosted Store U) → asked ≡ true → HasAskedOne M tally a asked c m e → HasAskedUpTo M tally n m e over b d → HasAskedUpTo M tally (suc n) a c over b d
   asks_next n a asked c m e over b d is one rest = inr (m, e, subst (λ (z : Bool). HasAskedOne M tally a z c m e) is one, rest)
@@ -137,16 +137,16 @@ module _ (M : Machine) {Setup Hosted Store U : Type 0} (tally : U → Tally) whe
   pub asks_none : (a : Account M.Body) (c : CellOf M Setup Hosted Store U) → HasAskedUpTo M tally zero a c false a c
   asks_none a c = (refl, refl, refl)
 
-  -- where none waits
+  -- if none waits
   pub none_waits : (waiting : List (Request M.Body)) (c : CellOf M Setup Hosted Store U) → waiting ≡ [] → HasAskedFirstOf M tally waiting false c c
   none_waits waiting c none = subst (λ (l : List (Request M.Body)). HasAskedFirstOf M tally l false c c) (sym none) (refl, refl)
 
-  -- where one waits, and the node may not ask
+  -- if one waits, and the node may not ask
   pub may_not : (waiting : List (Request M.Body)) (c d : CellOf M Setup Hosted Store U) → (waiting ≡ [] → ⊥) → MayAsk c false d → HasAskedFirstOf M tally waiting false c d
   may_not [] c d some looked = absurd (some refl)
   may_not (r ∷ waiting) c d some looked = record { may = false; seen = d; looked = looked; asks = refl }
 
-  -- where it may
+  -- if it may
   pub may_ask : (waiting rest : List (Request M.Body)) (note : ℕ) (body : M.Body) (c b d : CellOf M Setup Hosted Store U) → waiting ≡ request note body ∷ rest → MayAsk c true b
       → HasHadTurn M tally b (input.Ask body) d → HasAskedFirstOf M tally waiting true c d
   may_ask waiting rest note body c b d is looked turned =

@@ -26,7 +26,7 @@ module _ {I J : Type 0} (gives : I → Bool → Next J → I → Type 0) where
   given_both [] ys i j k h more = subst (λ (z : I). Given gives z ys k) h more
   given_both (x ∷ xs) ys i j k h more = (h.0, h.1, h.2, given_both xs ys h.1 j k h.3 more)
 
-  -- the jobs that stand in an inbox come first
+  -- the jobs that are in an inbox come first
   stand_first : (jobs : List J) (came : List (Next J)) (i k : I) → StandIn gives jobs i → Given gives i came k → length jobs ≤ length came
       → (later : List J) × (jobs_in came ≡ jobs ++ later)
   stand_first [] came i k h given few = (jobs_in came, refl)
@@ -42,7 +42,7 @@ jobs_both (next.Job j ∷ xs) ys = ap (λ l. j ∷ l) (jobs_both xs ys)
 jobs_both (next.Nothing ∷ xs) ys = jobs_both xs ys
 jobs_both (next.Over ∷ xs) ys = jobs_both xs ys
 
--- a worker that goes on was not told to end
+-- a worker that goes on was not asked to end
 goes_still : (over : Bool) → true ≡ not over → over ≡ false
 goes_still true is = absurd (cc is)
 goes_still false is = refl
@@ -80,7 +80,7 @@ module _ (M : Machine) {Setup Hosted Store U : Type 0} (tally : U → Tally) (ma
         done_is = rest.done_is ∙ counted_heeding js a h.account h.jobs.heeds;
       }
 
-  -- what came, and what came behind it
+  -- what came, and what came after it
   served_both : (one two : List (Next (JobOf M Setup Hosted Action))) (i : I) (a : Account M.Body) (c : CellOf M Setup Hosted Store U) (j : I) (m : Account M.Body)
       (e : CellOf M Setup Hosted Store U) (k : I) (b : Account M.Body) (d : CellOf M Setup Hosted Store U) → HasServed M tally marked mark gives one i a c j m e
       → HasServed M tally marked mark gives two j m e k b d → HasServed M tally marked mark gives (one ++ two) i a c k b d
@@ -136,7 +136,7 @@ module _ (M : Machine) {Setup Hosted Store U : Type 0} (tally : U → Tally) (ma
         served = served_both before.came came i a c h.1 h.2 h.3 k b d before.served (served_round h.0 h.1 h.2 h.3 goes_on leaves k b d last);
       }
 
-  -- as many things came at least as stood in the inbox
+  -- at least as many things came as were in the inbox
   pub served_standing : (jobs : List (JobOf M Setup Hosted Action)) (n : ℕ) (may : Bool) (i : I) (a : Account M.Body) (c : CellOf M Setup Hosted Store U) (goes_on leaves : Bool) (k : I)
       (b : Account M.Body) (d : CellOf M Setup Hosted Store U) → StandIn gives jobs i → length jobs ≤ n → HasDoneRounds M tally marked mark gives n may i a c goes_on leaves k b d
       → (came : List (Next (JobOf M Setup Hosted Action))) × (later : List (JobOf M Setup Hosted Action)) × (jobs_in came ≡ jobs ++ later) × HasServed M tally marked mark gives came i a c k b d

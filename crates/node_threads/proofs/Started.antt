@@ -1,4 +1,4 @@
--- That a cluster is started, where its workers began.
+-- That a cluster is started, if its workers began.
 use Rattle.std.proofs.Common.{◌≡◌, ◌<◌, ℕ, zero, suc, ◌+◌, List, [], ◌∷◌, ◌++◌, length, map, Result, Ok, Err, IfOk, IfErr, refl, sym, ap, ◌∙◌, subst, arith, append_assoc, append-nil}
 use mathlib.Core.Option.{some-injective, some-ne-none}
 use Rattle.raft_node.specs.Parts.{Keeper}
@@ -53,10 +53,10 @@ module _ {Hosted Store U O A L T P Setup B E V W : Type 0} (k : Keeper Store B) 
         }
     has_begun (Err x) ether kept places fault = subst (λ (y : ClusterFault). IsNoBeginning k size setup parts y) (sym fault) paired
 
--- ---- where no store is late
+-- -- if no store is late
 
 module _ {Store O U V : Type 0} (parts : List (Part Store U V)) where
-  -- of these parts some were made, and these are left
+  -- some of these parts were made, and these are left
   pub record AreMade (made : List (Part (PartStore Store O) U V)) (rest : List (Part Store U V)) : Type 0 where
     pub whole : made ++ map ready rest ≡ map ready parts
     pub many : length made + length rest ≡ length parts

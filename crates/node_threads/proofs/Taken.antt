@@ -47,7 +47,7 @@ module _ {B L : Type 0} where
   note_appends note.Restart x is = absurd (cc is)
   note_appends note.End x is = absurd (cc is)
 
-  -- it is not the end, and comes to something at the node
+  -- it is not the end, and does something at the node
   note_for_node : (n : Note B L) (x : NodeInput B L) → input_in n ≡ Some x → (is_last n ≡ false) × (is_idle_note n ≡ false)
   note_for_node (note.Timeout contacts) x is = absurd (cc is)
   note_for_node note.Beat x is = absurd (cc is)
@@ -81,7 +81,7 @@ module _ {M A L T P S C E : Type 0} where
   job_for_node (job.Restart reply) x is = absurd (cc is)
   job_for_node (job.Status reply) x is = absurd (cc is)
 
-  -- of one thing that comes, what is for the node
+  -- the part for the node of one thing that comes
   pub for_node_one : (j : Job M A L T P S C E) → is_end j ≡ false → is_idle j ≡ false → filter is_for_node (j ∷ []) ≡ j ∷ []
   for_node_one j goes acts = λ i. cond (not (goes i) && not (acts i)) (j ∷ []) []
 
@@ -94,7 +94,7 @@ module _ {M A L T P S C E : Type 0} where
   pub over_end : (j : Job M A L T P S C E) (ends : Bool) → is_end j ≡ ends → list_any is_over (next.Job j ∷ []) ≡ (ends || false)
   over_end j ends is = ap (λ b. b || false) is
 
-  -- what came last is for the node behind what was before
+  -- what came last is for the node, after what was before
   pub for_node_more : (xs : List (Next (Job M A L T P S C E))) (x : Next (Job M A L T P S C E))
       → filter is_for_node (jobs_in (xs ++ x ∷ [])) ≡ filter is_for_node (jobs_in xs) ++ filter is_for_node (jobs_in (x ∷ []))
   for_node_more xs x = ap (filter is_for_node) (jobs_end xs x) ∙ filter-append is_for_node (jobs_in xs) (jobs_in (x ∷ []))
@@ -126,7 +126,7 @@ module _ {Setup Hosted Store B L T E P U : Type 0} where
 -- ---- jobs
 
 module _ (M : Machine) {Setup Hosted Store U : Type 0} (tally : U → Tally) where
-  -- where a note is for such an input, a turn of that is what it comes to
+  -- if a note is for such an input, it does a turn of that
   note_turned : (n : Note M.Body M.Line) (x : NodeInput M.Body M.Line) (c d : CellOf M Setup Hosted Store U) → input_in n ≡ Some x → HasHadTurn M tally c x d → HasDoneNote M tally n c d
   note_turned (note.Timeout contacts) x c d is h = absurd (cc is)
   note_turned note.Beat x c d is h = absurd (cc is)
@@ -169,7 +169,7 @@ module _ (M : Machine) {Setup Hosted Store U : Type 0} (tally : U → Tally) whe
     idle_same (job.Restart reply) c d is h = absurd (cc is)
     idle_same (job.Status reply) c d is h = absurd (cc is)
 
-    -- one piece more was done
+    -- one more piece was done
     pub pieces_end : (ps : List (PieceOf M Setup Hosted Action)) (p : PieceOf M Setup Hosted Action)
         (c b d : CellOf M Setup Hosted Store U) → HasDoneAll M tally marked mark ps c b → HasDonePiece M tally marked mark p b d → HasDoneAll M tally marked mark (ps ++ p ∷ []) c d
     pieces_end [] p c b d done last = (d, subst (λ (z : CellOf M Setup Hosted Store U). HasDonePiece M tally marked mark p z d) done last, refl)

@@ -1,4 +1,4 @@
--- What a telling comes to whose report the outlet took.
+-- The result when the outlet took a report.
 use Rattle.std.proofs.Common.{◌≡◌, ◌⊎◌, ⊎_elim, inl, inr, ℕ, Some, None, false, refl, sym, ap, ◌∙◌, subst}
 use Rattle.node_notes.specs.declared.report.Report.{Report}
 use Rattle.node_threads.specs.Reports.{IsReport}
@@ -9,7 +9,7 @@ use Rattle.node_threads.specs.declared.worker_loop.round.Round.{Round}
 use Rattle.node_threads.specs.declared.worker_loop.telling.Told.{Told}
 
 module _ {M G O A L T P S C E : Type 0} where
-  -- a report that the outlet took was told
+  -- a report that the outlet took was given
   pub told_now : (has_taken : O → Report E → O → Type 0) (node : ℕ) (now : Told) (report : Report E) (old reported new : WorkerLoop M G O A L T P S C E)
       → reported ≡ record old { round = record old.round { effects = reported.round.effects } } → IsReport node now old.round.effects.items old.round.fault report
       → has_taken reported.outlet report new.outlet → new.told ≡ Some now → new.has_untold_beat ≡ false → leaving new.round ≡ reported.round.further.items → new.round.fault ≡ None
@@ -27,7 +27,7 @@ module _ {M G O A L T P S C E : Type 0} where
         fault_is = fault;
       }
 
-  -- so where the worker did nothing before that its outlet and its round know of
+  -- the same if the worker did nothing before that its outlet and its round know of
   pub told_behind : (has_taken : O → Report E → O → Type 0) (stands : Told → Type 0) (node : ℕ) (now : Told) (old mid new : WorkerLoop M G O A L T P S C E)
       → stands now → mid.outlet ≡ old.outlet → mid.round ≡ old.round → mid.told ≡ old.told → mid.has_untold_beat ≡ old.has_untold_beat
       → IsUntold mid new ⊎ HasTold has_taken (λ told. told ≡ now) node mid new → IsUntold old new ⊎ HasTold has_taken stands node old new

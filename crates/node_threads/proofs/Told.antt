@@ -1,4 +1,4 @@
--- That a status is told as its node stands.
+-- That a reported status is that of the node.
 use Rattle.std.proofs.Common.{◌≡◌, ◌↔◌, ℕ, List, Option, Some, None, refl, sym, ap, ◌∙◌, subst}
 use Rattle.raft_log.specs.declared.node_state.NodeState.{NodeState}
 use Rattle.raft_log.specs.declared.role.Role.{Role}

@@ -1,4 +1,4 @@
--- What comes of a worker whose node was opened late.
+-- A worker whose node was opened late.
 use Rattle.raft_node.specs.Parts.{Keeper}
 use Rattle.node_cells.specs.Cells.{CellRoom}
 use Rattle.node_cells.specs.Unopened.{UnopenedParts}

@@ -78,13 +78,13 @@ module _ {B : Type 0} where
         done_is = two.done_is ∙ one.done_is;
       }
 
-  -- a request that came back, for which there was no memory
+  -- a request that came back, for which memory ran out
   pub one_lost : (note done : ℕ) (old new : Queue B) → new ≡ lose note (settled old) → HaveComeBack (record { done = done; requests = old }) (record { done = done; requests = new })
   one_lost note done old new lost =
       subst (λ (q : Queue B). HaveComeBack (record { done = done; requests = old }) (record { done = done; requests = q })) (sym lost)
       (record { back = []; waiting_is = refl; came = inr refl; lost_grows = omega arith; done_is = refl })
 
-  -- a request that came back, or for which there was no memory
+  -- a request that came back, or for which memory ran out
   pub one_or_lost : (note : ℕ) (body : B) (term done : ℕ) (old new : Queue B) → note_in term old.asked ≡ Some note → WaitsOrIsLost note (in_front (request note body) (settled old)) (settled old) new
       → HaveComeBack (record { done = done; requests = old }) (record { done = done; requests = new })
   one_or_lost note body term done old new last is =
@@ -94,7 +94,7 @@ module _ {B : Type 0} where
       (record { back = request note body ∷ []; waiting_is = refl; came = (term, asked_last term old.asked note last, refl); lost_grows = omega arith; done_is = refl }))
       (λ (lost : new ≡ lose note (settled old)). one_lost note done old new lost) is
 
-  -- what was asked before comes back no more
+  -- what was asked before no longer comes back
   pub none_again : (done : ℕ) (old new : Queue B) → new ≡ settled old → HaveComeBack (record { done = done; requests = old }) (record { done = done; requests = new })
   none_again done old new is =
       subst (λ (q : Queue B). HaveComeBack (record { done = done; requests = old }) (record { done = done; requests = q })) (sym is)
@@ -116,7 +116,7 @@ module _ {B : Type 0} where
       let least = lost_before term old.asked q in
       omega (arith, is, least)
 
-  -- one message more, of those that were not taken
+  -- one more message, of those that were not taken
   pub back_more : (term : ℕ) (leader : Option ℕ) (es : List (Envelope B)) (i : ℕ) (e : Envelope B) (q m new : Queue B) → i < length es → e ≡ get_or es i e
       → ComesBack (brought_back term leader q.asked e.message) q m → AreBack term leader (drop (i + 1) es) m new → AreBack term leader (drop i es) q new
   back_more term leader es i e q m new within is one more =
@@ -136,7 +136,7 @@ module _ {B L : Type 0} where
   note_kept note.End x a b is h = h
 
 module _ {M A L T P S C E : Type 0} where
-  -- by what a leader only appends, no request goes
+  -- what a leader only appends removes no request
   pub job_kept : (j : Job M A L T P S C E) (x : NodeInput C L) (a b : Account C) → appended j ≡ Some x → HaveComeBack a b → HeedsJob j a b
   job_kept (job.Note n) x a b is h = note_kept n x a b is h
   job_kept (job.Look place target reply) x a b is h = h
@@ -156,7 +156,7 @@ module _ {M A L T P S C E : Type 0} where
   pub heeds_stop : (j : Job M A L T P S C E) (a : Account C) → is_end j ≡ true → Heeds (j ∷ []) a a
   heeds_stop j a is = (a, subst (λ (e : Bool). HeedsUnless e j a a) (sym is) refl, refl)
 
-  -- what came next is heeded behind what came before
+  -- what came next is heeded after what came before
   pub heeds_next : (came : List (Next (Job M A L T P S C E))) (x : Next (Job M A L T P S C E)) (a m b : Account C) → Heeds (jobs_in came) a m → Heeds (jobs_in (x ∷ [])) m b
       → Heeds (jobs_in (came ++ x ∷ [])) a b
   heeds_next came x a m b h one =

@@ -1,4 +1,4 @@
--- What the faults of lower calls are as faults of a cluster, and when each comes.
+-- The faults of lower calls as faults of a cluster, and when each comes.
 use Rattle.std.specs.Prelude.{◌≡◌, ◌<◌, ◌≤◌, ℕ, Bool, true, false, Result, Ok, Err}
 use Rattle.node_steps.specs.declared.refusal.Refusal.TheVariants.{LogFull, TermsSpent, NoLeader, Behind, BadOrigin}
 use Rattle.raft_node.specs.declared.node_fault.NodeFault.TheVariants.{Down, Refused}
@@ -13,7 +13,7 @@ from_cell of_cell.Memory = Memory
 from_cell of_cell.Spent = Spent
 from_cell (of_cell.Node fault) = Node fault
 
--- there is no node of this number, in a group of this size, exactly where the answer says so
+-- there is no node of this number, in a group of this size, exactly if the answer says so
 abbrev pub IsFound : {A : Type 0} → ℕ → ℕ → Result A ClusterFault → Type 0
 IsFound size node (Ok x) = node ≤ size
 IsFound size node (Err Memory) = ⊥
@@ -22,7 +22,7 @@ IsFound size node (Err Stopped) = ⊥
 IsFound size node (Err (Node fault)) = ⊥
 IsFound size node (Err Spent) = ⊥
 
--- the same, where there may be no memory for the answer
+-- the same, if memory may run out for the answer
 abbrev pub IsTold : {A : Type 0} → ℕ → ℕ → Result A ClusterFault → Type 0
 IsTold size node (Ok x) = node ≤ size
 IsTold size node (Err Memory) = node ≤ size
@@ -31,7 +31,7 @@ IsTold size node (Err Stopped) = ⊥
 IsTold size node (Err (Node fault)) = ⊥
 IsTold size node (Err Spent) = ⊥
 
--- why something did not come to a worker
+-- why something did not reach a worker
 abbrev pub IsUndelivered : ClusterFault → Type 0
 IsUndelivered Memory = Unit {0}
 IsUndelivered (NoNode n) = ⊥
@@ -39,7 +39,7 @@ IsUndelivered Stopped = Unit {0}
 IsUndelivered (Node fault) = ⊥
 IsUndelivered Spent = ⊥
 
--- where the worker answered, this holds; want of memory may come before, too
+-- if the worker answered, this holds; memory may run out before, too
 abbrev pub IfAnswered : {A : Type 0} → Result A ClusterFault → Type 0 → Type 0
 IfAnswered (Ok x) P = P
 IfAnswered (Err Memory) P = Unit {0}
@@ -57,7 +57,7 @@ IsNotOfCaller (Err Stopped) = Unit {0}
 IsNotOfCaller (Err (Node fault)) = Unit {0}
 IsNotOfCaller (Err Spent) = Unit {0}
 
--- the node knew no leader, or had not applied so much
+-- the node knew no leader, or had not applied enough
 abbrev pub comes_early : ClusterFault → Bool
 comes_early Memory = false
 comes_early (NoNode n) = false
@@ -70,7 +70,7 @@ comes_early (Node (Refused (Behind place))) = true
 comes_early (Node (Refused BadOrigin)) = false
 comes_early Spent = false
 
--- such a fault is the answer
+-- the answer is such a fault
 abbrev pub is_early : {A : Type 0} → Result A ClusterFault → Bool
 is_early (Ok x) = false
 is_early (Err fault) = comes_early fault

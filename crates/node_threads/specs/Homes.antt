@@ -13,12 +13,12 @@ use Rattle.node_threads.specs.declared.cluster_fault.ClusterFault.{ClusterFault}
 use Rattle.node_threads.specs.declared.cluster_fault.ClusterFault.TheVariants.{Memory, NoNode, Stopped, Node, Spent}
 use Rattle.node_threads.specs.declared.part.Part.{Part}
 
--- this holds of each item and its place, where the first has place i
+-- this holds for each item and its place, where the first has place i
 abbrev pub AllFrom : {A : Type 0} → (ℕ → A → Type 0) → ℕ → List A → Type 0
 AllFrom P i [] = Unit {0}
 AllFrom P i (x ∷ xs) = P i x × AllFrom P (suc i) xs
 
--- this holds of the items of two lists, place by place, and they are as many
+-- this holds for the items of two lists, place by place, and the lists have the same length
 abbrev pub ArePaired : {A B : Type 0} → (A → B → Type 0) → List A → List B → Type 0
 ArePaired R [] [] = Unit {0}
 ArePaired R [] (y ∷ ys) = ⊥
@@ -33,7 +33,8 @@ module _ {B L T : Type 0} where
     pub honest : w.honest ≡ v.honest
     pub opened : w.opened ≡ v.opened
 
--- the ether of a node, whether it records its turns, and its view as it was opened, or as it was where it was not opened yet
+-- the ether of a node, whether it records its turns, and its view as it was opened, or as it was if it was not opened
+-- yet
 pub record Home (Setup B L T : Type 0) : Type 0 where
   pub ether : EtherParts Setup
   pub recording : Recording
@@ -51,7 +52,7 @@ module _ {Setup B L T : Type 0} where
     pub home : IsHome closing.ether closing.recording (length closing.views) h
     pub few : length closing.views < closing.ether.size
 
-  -- the node was closed, by a view that is left of it
+  -- the node was closed, with a view that it left
   pub record HasJoined (is_left : View B L T → Type 0) (old : ClosingParts Setup B L T) (new : ClosingParts Setup B L T) : Type 0 where
     pub ether : new.ether ≡ old.ether
     pub recording : new.recording ≡ old.recording
@@ -87,7 +88,8 @@ module _ {Setup Store B : Type 0} (k : Keeper Store B) (size : ℕ) (setup : Set
   IsNotOpened node store (Node fault) = IsStarted {Hosted = Unit {0}} k node size setup store (Err fault)
   IsNotOpened node store Spent = ⊥
 
--- The parts are not as many as the nodes of this size, and this is the first number of which there is a part but no node, or a node but no part.
+-- There are not as many parts as nodes of this size, and this is the first number of which there is a part but no node,
+-- or a node but no part.
 abbrev pub IsUnpaired : ℕ → ℕ → ClusterFault → Type 0
 IsUnpaired size parts Memory = ⊥
 IsUnpaired size parts (NoNode n) = ((parts < size) × (n ≡ suc parts)) ⊎ ((size < parts) × (n ≡ suc size))
@@ -96,7 +98,7 @@ IsUnpaired size parts (Node fault) = ⊥
 IsUnpaired size parts Spent = ⊥
 
 module _ {Setup Store B U O : Type 0} (k : Keeper Store B) (size : ℕ) (setup : Setup) (parts : List (Part Store U O)) where
-  -- Why a cluster does not start. Node: the node of a part did not. NoNode: the parts are not as many as the nodes.
+  -- Why a cluster does not start. Node: the node of a part did not. NoNode: there are not as many parts as nodes.
   abbrev pub IsNoStart : ClusterFault → Type 0
   IsNoStart Memory = length parts ≡ size
   IsNoStart (NoNode n) = IsUnpaired size (length parts) (NoNode n)

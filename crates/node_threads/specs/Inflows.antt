@@ -4,12 +4,13 @@ use Rattle.node_threads.specs.declared.inflow.Next.{Next}
 use Rattle.node_threads.specs.declared.inflow.Next.TheVariants as next
 
 module _ {I J : Type 0} (gives : I → Bool → Next J → I → Type 0) where
-  -- From the one to the other an inflow gave these, in order, and nothing between. It might wait for the first where this says so, and for no other.
+  -- Between these states an inflow gave these things, in order, and nothing else. It might wait for the first if this
+  -- says so, and for no other.
   abbrev pub GivenInRound : Bool → I → List (Next J) → I → Type 0
   GivenInRound may_wait i [] k = k ≡ i
   GivenInRound may_wait i (x ∷ xs) k = (j : I) × gives i may_wait x j × GivenInRound false j xs k
 
-  -- so, and it might wait for any, or not
+  -- and it might wait for any, or not
   abbrev pub Given : I → List (Next J) → I → Type 0
   Given i [] k = k ≡ i
   Given i (x ∷ xs) k = (may_wait : Bool) × (j : I) × gives i may_wait x j × Given j xs k

@@ -1,15 +1,15 @@
--- The jobs that calls of a node make, and that they were put into its worker's inbox.
+-- The jobs of calls of a node, and that they were put into its worker's inbox.
 use Rattle.std.specs.Prelude.{◌≡◌, ℕ, Result}
 use Rattle.node_threads.specs.Faults.{IfAnswered}
 use Rattle.node_threads.specs.declared.cluster_fault.ClusterFault.{ClusterFault}
 use Rattle.node_threads.specs.declared.job.Job.{Job}
 use Rattle.node_threads.specs.declared.job.Job.TheVariants.{Note, Look, Mark, LookAfter, Restart, Status}
 
--- something of this kind was put into an inbox, whose rule says what was
+-- something of this kind was put into an inbox, by the inbox's own rule
 abbrev pub IsPut : {J : Type 0} → (J → Type 0) → (J → Type 0) → Type 0
 IsPut {J} wanted put = (job : J) × wanted job × put job
 
--- where the worker answered, such a job was put into its inbox
+-- if the worker answered, such a job was put into its inbox
 abbrev pub IsAsked : {A J : Type 0} → (J → Type 0) → (J → Type 0) → Result A ClusterFault → Type 0
 IsAsked wanted put result = IfAnswered result (IsPut wanted put)
 
@@ -32,7 +32,7 @@ module _ {M A L T P S C E : Type 0} where
   IsMarkJob (Restart reply) = ⊥
   IsMarkJob (Status reply) = ⊥
 
-  -- a look at this target behind the mark of this number
+  -- a look at this target after the mark of this number
   abbrev pub IsLookBehind : ℕ → T → Job M A L T P S C E → Type 0
   IsLookBehind number target (Note note) = ⊥
   IsLookBehind number target (Look p t reply) = ⊥
@@ -41,7 +41,7 @@ module _ {M A L T P S C E : Type 0} where
   IsLookBehind number target (Restart reply) = ⊥
   IsLookBehind number target (Status reply) = ⊥
 
-  -- a look at this target behind some mark
+  -- a look at this target after some mark
   abbrev pub IsLookBehindSome : T → Job M A L T P S C E → Type 0
   IsLookBehindSome target job = (number : ℕ) × IsLookBehind number target job
 
@@ -54,7 +54,7 @@ module _ {M A L T P S C E : Type 0} where
   IsRestartJob (Restart reply) = Unit {0}
   IsRestartJob (Status reply) = ⊥
 
-  -- the question how a node stands
+  -- the question for the state of a node
   abbrev pub IsStatusJob : Job M A L T P S C E → Type 0
   IsStatusJob (Note note) = ⊥
   IsStatusJob (Look p t reply) = ⊥

@@ -1,4 +1,4 @@
--- A worker whose node is not open yet: what it tells, and what it does with its jobs.
+-- A worker whose node is not open yet: what it reports, and what it does with its jobs.
 use Rattle.std.specs.Prelude.{◌≡◌, length, Bool, true, false, None, Some}
 use Rattle.raft_log.specs.declared.role.Role.TheVariants.{Follower}
 use Rattle.raft_node.specs.declared.node_fault.Cause.{Cause}
@@ -24,13 +24,13 @@ use Rattle.node_threads.specs.Reports.{is_end, is_told}
 use Rattle.node_threads.specs.Rounds.{with_fault}
 use Rattle.node_threads.specs.Waiting.{Account, HeedsJob, counted}
 
--- how a node stands that is down by this cause, since its store is not there: it has no run yet
+-- the state of a node that is down for this cause because its store is not there: it has no run yet
 abbrev pub status_down : Cause → Status
 status_down cause =
     record { role = Follower; boot = 0; term = 0; last = 0; commit = 0; applied = 0; session = None; next_claim = None; down = Some cause }
 
 module _ {M G O A L T P S C E : Type 0} where
-  -- so, and how far its worker is
+  -- this state, and how far its worker is
   abbrev pub told_down : Cause → WorkerLoop M G O A L T P S C E → Told
   told_down cause w =
       record {
@@ -38,7 +38,7 @@ module _ {M G O A L T P S C E : Type 0} where
         progress = record { done = w.done; waiting = length w.requests.waiting.items; lost = w.requests.lost; contacts = w.contacts };
       }
 
-  -- this is told of it
+  -- this is reported of it
   abbrev pub StandsDown : Cause → WorkerLoop M G O A L T P S C E → Told → Type 0
   StandsDown cause w now = now ≡ told_down cause w
 
@@ -61,7 +61,7 @@ IsOver Stay = ⊥
 IsOver (Restart reply) = ⊥
 
 module _ {B L : Type 0} where
-  -- a restart is tried by the note that says so, and by no other
+  -- the note for a restart tries one, and no other note does
   abbrev pub IsStepOfNote : Note B L → DownStep → Type 0
   IsStepOfNote (note.Timeout contacts) step = IsStay step
   IsStepOfNote note.Beat step = IsStay step
@@ -88,7 +88,7 @@ module _ {B L : Type 0} where
   after_note note.End cause r = r
 
 module _ {M A L T P S C E : Type 0} where
-  -- so with jobs
+  -- the same for jobs
   abbrev pub IsStepOf : Job M A L T P S C E → DownStep → Type 0
   IsStepOf (job.Note note) step = IsStepOfNote note step
   IsStepOf (job.Look place target reply) step = IsStay step
@@ -116,7 +116,7 @@ module _ {M A L T P S C E : Type 0} where
   TakesNext next.Nothing a step b = IsStay step × (b ≡ a)
   TakesNext next.Over a step b = IsOver step × (b ≡ a)
 
-  -- the inbox, which might wait or not, gave one thing, which was taken up so
+  -- the inbox, which might wait or not, gave one thing, which was taken up in this way
   pub record HasTakenDown {I : Type 0} (gives : I → Bool → Next (Job M A L T P S C E) → I → Type 0) (may_wait : Bool) (i : I) (a : Account C) (step : DownStep) (k : I) (b : Account C) : Type 0 where
     pub came : Next (Job M A L T P S C E)
     pub given : gives i may_wait came k

@@ -33,14 +33,14 @@ module _ {Hosted Store U O L T P Setup B E : Type 0} (k : Keeper Store B) (gives
   HasTriedLate u opener (Err back) = back.0 ≡ u
 
 module _ {Hosted Store U O A L T P Setup B E : Type 0} where
-  -- the node's ether, whether it records its turns, and its view as it was opened, or as it is where it was not opened yet
+  -- the node's ether, whether it records its turns, and its view as it was opened, or as it is if it was not opened yet
   abbrev pub place_home : Place Hosted Store U O A L T P Setup B E → Home Setup B L T
   place_home (Open c) = home_of c.parts
   place_home (Late u opener) = record { ether = u.ether; recording = u.recording; view = view_of u.pass }
 
   module _ (k : Keeper Store B) (gives : O → Store → Type 0) where
-    -- What a worker leaves of the node that it began with: a node that was open is the same node later. One that was not was opened over a store
-    -- that its opener gave, and is the same node later, or nothing happened to it.
+    -- What a worker leaves of the node that it began with: a node that was open is the same node later. One that was
+    -- not was opened over a store that its opener gave, and is the same node later, or nothing happened to it.
     abbrev pub HasWorked : Place Hosted Store U O A L T P Setup B E → Place Hosted Store U O A L T P Setup B E → Type 0
     HasWorked (Open c) (Open d) = IsSameHome c.parts d.parts
     HasWorked (Open c) (Late v left) = ⊥
@@ -64,15 +64,15 @@ abbrev pub ready : {Store O U W : Type 0} → Part Store U W → Part (PartStore
 ready p = record { store = store.Ready p.store; upstream = p.upstream; outlet = p.outlet }
 
 module _ {Setup Store B O : Type 0} (k : Keeper Store B) (size : ℕ) (setup : Setup) where
-  -- why a worker did not begin with the node of this number: the node was not opened over its store, or there was no memory
+  -- why a worker did not begin with the node of this number: the node was not opened over its store, or memory ran out
   abbrev pub IsNotBegun : ℕ → PartStore Store O → ClusterFault → Type 0
   IsNotBegun node (store.Ready s) fault = IsNotOpened k size setup node s fault
   IsNotBegun node (store.Late opener) fault = fault ≡ Memory
 
 module _ {Setup Store B U : Type 0} (k : Keeper Store B) where
   module _ {Hosted O A L T P E : Type 0} where
-    -- A node as its worker begins with it, by the store of its part: it was opened over that, or where that comes late, nothing happened to it, and
-    -- it has the part's opener.
+    -- A node as its worker begins with it, by the store of its part: it was opened over that, or, if the store comes
+    -- late, nothing happened to it, and it has the part's opener.
     abbrev pub IsBegunBy : EtherParts Setup → Recording → Pass B L T → PartStore Store O → U → Place Hosted Store U O A L T P Setup B E → Type 0
     IsBegunBy e r pass (store.Ready s) upstream (Open c) = IsFresh k e pass s upstream r c.parts
     IsBegunBy e r pass (store.Ready s) upstream (Late u opener) = ⊥
@@ -89,8 +89,8 @@ module _ {Setup Store B U : Type 0} (k : Keeper Store B) where
       pub begun : IsBegunBy e r pass part.store part.upstream place
 
 module _ {Setup Store B O U W : Type 0} (k : Keeper Store B) (size : ℕ) (setup : Setup) (parts : List (Part (PartStore Store O) U W)) where
-  -- Why a cluster does not start of which some nodes are late. Node: the node of a part whose store is there did not. NoNode: the parts are not as
-  -- many as the nodes.
+  -- Why a cluster with late nodes does not start. Node: the node of a part whose store is there did not. NoNode: there
+  -- are not as many parts as nodes.
   abbrev pub IsNoBeginning : ClusterFault → Type 0
   IsNoBeginning Memory = length parts ≡ size
   IsNoBeginning (NoNode n) = IsUnpaired size (length parts) (NoNode n)
@@ -99,8 +99,8 @@ module _ {Setup Store B O U W : Type 0} (k : Keeper Store B) (size : ℕ) (setup
   IsNoBeginning Spent = ⊥
 
   module _ {Hosted A L T P E : Type 0} where
-    -- a cluster that runs: each node whose store was there was opened over it, nothing happened to the others, no part is left over, and all record
-    -- their turns, or none does
+    -- a cluster that runs: each node whose store was there was opened over it, nothing happened to the others, no part
+    -- is left over, and either all record their turns or none does
     pub record AreBegun (recording : Recording) (c : ClusterParts Hosted Store U O A L T P Setup B E) : Type 0 where
       pub nodes : c.ether.size ≡ size
       pub setup_is : c.ether.setup ≡ setup
@@ -116,8 +116,8 @@ module _ {Setup Store B O U W : Type 0} (k : Keeper Store B) (size : ℕ) (setup
 
 module _ {Setup Store B U W : Type 0} (k : Keeper Store B) (size : ℕ) (setup : Setup) (parts : List (Part Store U W)) where
   module _ {Hosted O A L T P E : Type 0} where
-    -- a cluster that runs with no late node: each node was opened over the store of its part, no part is left over, and all record their turns, or
-    -- none does
+    -- a cluster that runs with no late node: each node was opened over the store of its part, no part is left over, and
+    -- either all record their turns or none does
     pub record AreStarted (recording : Recording) (c : ClusterParts Hosted Store U O A L T P Setup B E) : Type 0 where
       pub nodes : c.ether.size ≡ size
       pub setup_is : c.ether.setup ≡ setup

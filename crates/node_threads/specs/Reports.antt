@@ -1,4 +1,4 @@
--- What a worker tells its outlet.
+-- What a worker reports to its outlet.
 use Rattle.std.specs.Prelude.{◌≡◌, ◌↔◌, ◌<◌, ◌≤◌, ◌-◌, ◌&&◌, ◌||◌, ◌++◌, ℕ, length, Bool, true, false, not, nat_eq, nat_lt, List, Option, Some, None}
 use Rattle.raft_log.specs.declared.role.Role.{Role}
 use Rattle.raft_log.specs.declared.role.Role.TheVariants.{Follower, Candidate, Leader}
@@ -26,7 +26,8 @@ use Rattle.node_threads.specs.declared.worker_loop.telling.TheConstants.{MOST_UN
 use Rattle.node_threads.specs.declared.job.Job.{Job}
 use Rattle.node_threads.specs.declared.job.Job.TheVariants as job
 
--- what was told, with what a longer log alone changes as it is now: its last index, how many notes are done, and how often a leader was heard
+-- the last report, with the current values of what growth of the log alone changes: the last index, how many notes are
+-- done, and how often a leader was heard
 abbrev pub grown : Told → Told → Told
 grown told now =
     record {
@@ -34,17 +35,18 @@ grown told now =
       progress = record told.progress { done = now.progress.done; contacts = now.progress.contacts };
     }
 
--- nothing else is new behind what was told last than that the log grew, by entries that are not agreed yet, how often a leader was heard, and that a few notes are done
+-- since the last report nothing is new but that the log grew, by entries that are not agreed yet, how often a leader
+-- was heard, and that a few notes are done
 abbrev pub IsGrownAlone : Told → Told → Type 0
 IsGrownAlone told now =
     (now.status.commit < now.status.last) × ((now.progress.done - told.progress.done) ≤ MOST_UNTOLD) × (grown told now ≡ now)
 
--- so it is, where anything was told
+-- and there was a report
 abbrev pub HasGrownAlone : Option Told → Told → Type 0
 HasGrownAlone None now = ⊥
 HasGrownAlone (Some told) now = IsGrownAlone told now
 
--- whether a note counts as done once the worker did it: all but what another worker tells
+-- whether a note counts as done once the worker did it: all but those of other workers
 abbrev pub is_counted : {B L : Type 0} → Note B L → Bool
 is_counted (note.Timeout contacts) = true
 is_counted note.Beat = true
@@ -57,7 +59,7 @@ is_counted note.Wake = false
 is_counted note.Restart = true
 is_counted note.End = true
 
--- whether a note tells the worker to end
+-- whether a note asks the worker to end
 abbrev pub is_last : {B L : Type 0} → Note B L → Bool
 is_last (note.Timeout contacts) = false
 is_last note.Beat = false
@@ -71,7 +73,7 @@ is_last note.Restart = false
 is_last note.End = true
 
 module _ {M A L T P S C E : Type 0} where
-  -- whether the node was told this: what a caller that waits for its answer tells is not
+  -- whether the driver sent this: a job of a caller that waits for its answer is not from the driver
   abbrev pub is_told : Job M A L T P S C E → Bool
   is_told (job.Note note) = is_counted note
   is_told (job.Look place target reply) = false
@@ -80,7 +82,7 @@ module _ {M A L T P S C E : Type 0} where
   is_told (job.Restart reply) = false
   is_told (job.Status reply) = false
 
-  -- whether the worker is told to end
+  -- whether it asks the worker to end
   abbrev pub is_end : Job M A L T P S C E → Bool
   is_end (job.Note note) = is_last note
   is_end (job.Look place target reply) = false
@@ -104,7 +106,7 @@ told_fault Memory = Down NoMemory
 told_fault Spent = Down NoMemory
 told_fault (Node fault) = fault
 
--- whether it is up, where it leads
+-- whether it is up, if it leads
 abbrev pub leads_up : {B L T : Type 0} → Phase B L T → Role → Bool
 leads_up Up Leader = true
 leads_up Up Follower = false
@@ -118,14 +120,15 @@ module _ {Setup Hosted Store B L T E P U : Type 0} where
   abbrev pub leads_in : CellParts Setup Hosted Store B L T E P U → Bool
   leads_in c = leads_up c.phase (role_of c.node.state.standing.position)
 
-  -- how the node of a cell stands, and why it is down, if it is; while it is up, the line to be claimed next is by what it applied
+  -- the state of the node of a cell, and why it is down, if it is; while it is up, the line to be claimed next is given
+  -- by what it applied
   pub record IsStatusOf (next_claim : Setup → List (ℕ × B) → Option ℕ) (c : CellParts Setup Hosted Store B L T E P U) (s : Status) : Type 0 where
     pub told : s ≡ status_of c.node.state s.next_claim s.down
     pub up : (s.down ≡ None) ↔ (c.phase ≡ Up)
     pub cause : s.down ≡ down_in c
     pub claim : c.node.down ≡ None → s.next_claim ≡ next_claim c.node.setup (applied_bodies c.node.state)
 
--- a report of this node that stands so and got so far, of these effects and this fault
+-- a report of this node with this state and progress, these effects and this fault
 pub record IsReport {E : Type 0} (node : ℕ) (told : Told) (effects : List E) (fault : Option NodeFault) (r : Report E) : Type 0 where
   pub node_is : r.node ≡ node
   pub status_is : r.status ≡ told.status
@@ -138,17 +141,18 @@ abbrev pub is_on_news : Beats → Bool
 is_on_news OnNews = true
 is_on_news WhenTold = false
 
--- a leader of this term, with a log up to this last place and so much agreed, sent nothing since, or one that lags behind answered
+-- a leader of this term, with a log up to this last place and this much agreed, has sent nothing since, or a lagging
+-- node answered
 abbrev pub has_grown : Option Beaten → Bool → ℕ → ℕ → ℕ → Bool
 has_grown None is_behind term last commit = true
 has_grown (Some beaten) is_behind term last commit =
     not (nat_eq beaten.term term) || (nat_lt beaten.last last || (nat_lt beaten.commit commit || is_behind))
 
--- where its worker is to send by itself, and it leads
+-- and its worker sends by itself, and it leads
 abbrev pub is_news : {Setup Hosted Store B L T E P U : Type 0} → Beats → Option Beaten → Bool → CellParts Setup Hosted Store B L T E P U → Bool
 is_news beats beaten is_behind c =
     is_on_news beats && (leads_in c && has_grown beaten is_behind c.node.state.standing.term (length c.node.state.log) c.node.state.standing.commit)
 
--- of what was to be told, the first part was, in order, and the rest is still to be told
+-- the first part of what was to be reported was, in order, and the rest still is to be
 abbrev pub TellsFirst : {E : Type 0} → List E → List E → Type 0
 TellsFirst {E} old new = (told : List E) × (old ≡ told ++ new)

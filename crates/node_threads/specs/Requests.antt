@@ -15,7 +15,7 @@ abbrev pub note_in : ℕ → Option Asked → Option ℕ
 note_in term None = None
 note_in term (Some asked) = if nat_eq asked.term term && asked.may_return then Some asked.note else None
 
--- the last that was asked, which comes back no more
+-- the last that was asked, which no longer comes back
 abbrev pub at_rest : Option Asked → Option Asked
 at_rest None = None
 at_rest (Some asked) = Some (record asked { may_return = false })
@@ -27,11 +27,11 @@ module _ {B : Type 0} where
   abbrev pub request : ℕ → B → Request B
   request note body = record { note = note; body = body }
 
-  -- the request of this note may be lost, and so those before it
+  -- the request of this note may be lost, and so may those before it
   abbrev pub lose : ℕ → Queue B → Queue B
   lose note q = record q { lost = max q.lost note }
 
-  -- it waits behind all others
+  -- it waits after all others
   abbrev pub behind : Request B → Queue B → Queue B
   behind r q = record q { waiting = q.waiting ++ r ∷ [] }
 
@@ -39,7 +39,7 @@ module _ {B : Type 0} where
   abbrev pub in_front : Request B → Queue B → Queue B
   in_front r q = record q { waiting = r ∷ q.waiting }
 
-  -- a request waits as this says, or where there is no memory for it, it may be lost
+  -- a request waits like this, or, if memory runs out, may be lost
   abbrev pub WaitsOrIsLost : ℕ → Queue B → Queue B → Queue B → Type 0
   WaitsOrIsLost note waits old new = (new ≡ waits) ⊎ (new ≡ lose note old)
 
@@ -54,16 +54,16 @@ module _ {B : Type 0} where
   abbrev pub asked_now : ℕ → ℕ → Queue B → Queue B
   asked_now note term q = record q { asked = Some (record { note = note; term = term; may_return = true }) }
 
-  -- so in the queue
+  -- the same for the queue
   abbrev pub settled : Queue B → Queue B
   settled q = record q { asked = at_rest q.asked }
 
-  -- the last that was asked, once these were asked in this term, in order
+  -- the last that was asked, after these were asked in this term, in order
   abbrev pub last_asked : ℕ → List (Request B) → Option Asked → Option Asked
   last_asked term [] asked = asked
   last_asked term (r ∷ requests) asked = last_asked term requests (Some (record { note = r.note; term = term; may_return = true }))
 
-  -- The first of those that wait, if one does, is asked in this term.
+  -- The first of those that wait, if there is one, is asked in this term.
   abbrev pub HasAsked : ℕ → Queue B → Option B → Queue B → Type 0
   HasAsked term old None new = (old.waiting ≡ []) × (new ≡ old)
   HasAsked term old (Some body) new =

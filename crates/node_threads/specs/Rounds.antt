@@ -25,11 +25,12 @@ is_handed (Hand id number line) = true
 is_handed (Rejoin id line) = false
 is_handed Nowhere = false
 
--- what a report tells of what leaves in a turn, in order: all but what is handed out upstream, since its upstream had that
+-- the effects of a turn that a report gives, in order: all but what is handed out upstream, since its upstream has got
+-- that
 abbrev pub reported : {E L : Type 0} → (E → Class L) → List E → List E
 reported class effects = filter (λ e. not (is_handed (class e))) effects
 
--- all that is still to be told of what left, in order
+-- all effects that are still to be reported, in order
 abbrev pub leaving : {E : Type 0} → Round E → List E
 leaving r = r.effects.items ++ r.further.items
 
@@ -43,25 +44,26 @@ abbrev pub woken_by : List Bool → List ℕ → List Bool
 woken_by woken [] = woken
 woken_by woken (node ∷ nodes) = woken_by (with_item woken node true) nodes
 
--- a fault more, of which the first stays
+-- one more fault, of which the first stays
 abbrev pub with_fault : {E : Type 0} → NodeFault → Round E → Round E
 with_fault fault r = record r { fault = Some (first_fault r.fault fault) }
 
 module _ {E : Type 0} where
-  -- each of these answers that is a refusal is a fault, in order
+  -- each refusal among these answers is a fault, in order
   abbrev pub with_refusals : List (Result (Unit {0}) Refusal) → Round E → Round E
   with_refusals [] r = r
   with_refusals (Ok done ∷ answers) r = with_refusals answers r
   with_refusals (Err refusal ∷ answers) r = with_refusals answers (with_fault (Refused refusal) r)
 
-  -- of inputs that were done together the refusals are kept, and where nothing was done, why
+  -- the refusals of inputs that were processed together are kept, and if nothing was done, why
   abbrev pub GathersAnswers : Result (List (Result (Unit {0}) Refusal)) CellFault → Round E → Round E → Type 0
   GathersAnswers (Ok answers) old new = new ≡ with_refusals answers old
   GathersAnswers (Err fault) old new = new ≡ with_fault (told_fault fault) old
 
 module _ {B E L : Type 0} (class : E → Class L) (term : ℕ) (leader : Option ℕ) where
-  -- What a turn gave is gathered, after which the node is in this term and knows this leader: what is told of what leaves, who is to look into its
-  -- mailboxes, whether a request was posted last, which the turn was or not, and which requests come back.
+  -- The result of a turn is gathered, after which the node is in this term and knows this leader: the effects to
+  -- report, who is to look into its mailboxes, whether a request was last posted, which the turn was or not, and which
+  -- requests come back.
   pub record Gathers (is_request : Bool) (output : TurnOutput B E) (old : Round E) (forwarded : Option ℕ) (requests : Queue B) (new : Round E) (now_forwarded : Option ℕ)
       (now_requests : Queue B) : Type 0 where
     pub leaves : old.further.items ≡ [] → leaving new ≡ leaving old ++ reported class output.effects.items
@@ -70,13 +72,14 @@ module _ {B E L : Type 0} (class : E → Class L) (term : ℕ) (leader : Option 
     pub returns : AreBack term leader output.replaced.items requests now_requests
     pub fault : new.fault ≡ old.fault
 
-  -- of a turn that gave nothing, the first such fault is kept
+  -- the first such fault is kept of a turn that gave nothing
   abbrev pub GathersTurn : Bool → Result (TurnOutput B E) CellFault → Round E → Option ℕ → Queue B → Round E → Option ℕ → Queue B → Type 0
   GathersTurn is_request (Ok output) old forwarded requests new now_forwarded now_requests = Gathers is_request output old forwarded requests new now_forwarded now_requests
   GathersTurn is_request (Err fault) old forwarded requests new now_forwarded now_requests =
       (new ≡ record old { fault = Some (first_fault old.fault (told_fault fault)) }) × (now_forwarded ≡ forwarded) × (now_requests ≡ requests)
 
-  -- What a mark gave is gathered, and no request that was asked before it comes back any more. Of a mark that was not asked, nothing is.
+  -- The result of a mark is gathered, and no request that was asked before it comes back any more. A mark that was not
+  -- asked gives nothing.
   abbrev pub GathersMark : Result (MarkTurn B E) CellFault → Round E → Option ℕ → Queue B → Round E → Option ℕ → Queue B → Type 0
   GathersMark (Ok asked) old forwarded requests new now_forwarded now_requests =
       (back : Queue B) × Gathers true asked.output old forwarded requests new now_forwarded back × (now_requests ≡ settled back)
@@ -94,7 +97,7 @@ module _ {B : Type 0} where
   abbrev pub is_led : Message B → ℕ → Bool
   is_led m term = is_append m.kind && nat_le term m.term
 
-  -- an answer that says that a log has not all up to this place
+  -- an answer that says that a log does not reach this place
   abbrev pub lags : Kind B → ℕ → Bool
   lags (RequestVote last_index last_term) last = false
   lags (Vote granted) last = false

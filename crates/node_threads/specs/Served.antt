@@ -22,7 +22,7 @@ use Rattle.node_threads.specs.Work.{Deed, HasDeed, HasHadTurn}
 use Rattle.node_threads.specs.Work.Deed.{Takes, Turns}
 
 module _ {I J : Type 0} (gives : I → Bool → Next J → I → Type 0) where
-  -- These jobs stand in an inbox: whatever it gives next is the first of them, and behind that the others stand in it.
+  -- These jobs are in an inbox: whatever it gives next is the first of them, and after that the others are in it.
   abbrev pub StandIn : List J → I → Type 0
   StandIn [] i = Unit {0}
   StandIn (j ∷ js) i = (may_wait : Bool) (x : Next J) (k : I) → gives i may_wait x k → (x ≡ next.Job j) × StandIn js k
@@ -33,12 +33,12 @@ pub data Act (J B L : Type 0) : Type 0 where
   Works : Piece J (NodeInput B L) → Act J B L
   -- it asks requests that waited: one by itself, or several together
   Asks : List (Request B) → Act J B L
-  -- a thing beside its jobs, that is no request
+  -- a thing besides its jobs, that is no request
   Goes : Deed B L → Act J B L
-  -- it looks whether a message was taken, and turns nothing
+  -- it looks whether a message was taken, and processes nothing
   Looks : Act J B L
 
--- a worker's act, where its node hosts this machine
+-- an act of a worker whose node hosts this machine
 abbrev pub ActOf : Machine → Type 0 → Type 0 → Type 0 → Type 0
 ActOf M Setup Hosted Action = Act (JobOf M Setup Hosted Action) M.Body M.Line
 
@@ -60,18 +60,18 @@ module _ {J B L : Type 0} where
   asked_in (Looks ∷ acts) = asked_in acts
 
 module _ {B L : Type 0} where
-  -- whether a request is turned by this
+  -- whether this processes a request
   abbrev pub turns_request : Deed B L → Bool
   turns_request (Takes from) = false
   turns_request (Turns x) = is_request x
 
 module _ (M : Machine) {Setup Hosted Store U : Type 0} (tally : U → Tally) where
-  -- One request was turned by itself, or these were together.
+  -- One request was processed by itself, or these were together.
   abbrev pub HasTurnedRequests : List (Request M.Body) → CellOf M Setup Hosted Store U → CellOf M Setup Hosted Store U → Type 0
   HasTurnedRequests requests c d =
       ((r : Request M.Body) × (requests ≡ r ∷ []) × HasHadTurn M tally c (input.Ask r.body) d) ⊎ HasTurnedAll M (asks_of requests) c d
 
-  -- one look whether the leader took what was posted to it last, where the node may ask then, or its mailbox is left
+  -- one look whether the leader took what was last posted to it, if the node may ask then, or its mailbox is left
   abbrev pub HasLookedOn : CellOf M Setup Hosted Store U → CellOf M Setup Hosted Store U → Type 0
   HasLookedOn c d = ((may : Bool) × MayAsk c may d) ⊎ ((at : Option ℕ) × (left : Option ℕ) × HasLeft at c left d)
 
@@ -88,8 +88,8 @@ module _ (M : Machine) {Setup Hosted Store U : Type 0} (tally : U → Tally) whe
     HasActed (x ∷ acts) c d = (b : CellOf M Setup Hosted Store U) × HasAct x c b × HasActed acts b d
 
   module _ (marked : M.Body → Option Mark) (mark : Mark → M.Body) {Action I : Type 0} (gives : I → Bool → Next (JobOf M Setup Hosted Action) → I → Type 0) where
-    -- So many rounds were done, each from where the one before ended. Each but the last goes on, and the last does or does not. In each the inbox might wait
-    -- where the one before left nothing to do.
+    -- This many rounds were done, each from where the one before ended. Each but the last goes on, and the last does or
+    -- does not. In each the inbox might wait if the one before left nothing to do.
     abbrev pub HasDoneRounds : ℕ → Bool → I → Account M.Body → CellOf M Setup Hosted Store U → Bool → Bool → I → Account M.Body → CellOf M Setup Hosted Store U → Type 0
     HasDoneRounds zero may_wait i a c goes_on leaves_nothing k b d = (goes_on ≡ true) × (leaves_nothing ≡ may_wait) × (k ≡ i) × (b ≡ a) × (d ≡ c)
     HasDoneRounds (suc n) may_wait i a c goes_on leaves_nothing k b d =
@@ -100,8 +100,9 @@ module _ (M : Machine) {Setup Hosted Store U : Type 0} (tally : U → Tally) whe
     abbrev pub HasWorkedOff : Bool → I → Account M.Body → CellOf M Setup Hosted Store U → I → Account M.Body → CellOf M Setup Hosted Store U → Type 0
     HasWorkedOff may_wait i a c k b d = (n : ℕ) × (leaves_nothing : Bool) × HasDoneRounds n may_wait i a c false leaves_nothing k b d
 
-    -- An inbox gave this, and these things were done with the node, in order, and nothing else. Among them each job that came and is for the node was
-    -- done, once and in order, and no other. Each request that came waited, under the number of its note, and each that waited has one fate.
+    -- An inbox gave this, and these things were done with the node, in order, and nothing else. Among them each job
+    -- that came and is for the node was done, once and in order, and no other. Each request that came waited, under the
+    -- number of its note, and each that waited has one fate.
     pub record HasServed (came : List (Next (JobOf M Setup Hosted Action))) (i : I) (a : Account M.Body) (c : CellOf M Setup Hosted Store U)
         (k : I) (b : Account M.Body) (d : CellOf M Setup Hosted Store U) : Type 0 where
       pub given : Given gives i came k
@@ -111,8 +112,8 @@ module _ (M : Machine) {Setup Hosted Store U : Type 0} (tally : U → Tally) whe
       pub requests : EachHasOneFate (requests_by a.done (jobs_in came)) (asked_in acts) (list_any is_restart (jobs_in came)) a.requests b.requests
       pub done_is : b.done ≡ counted_by_all (jobs_in came) a.done
 
-    -- So over so many rounds: one thing came in each at least, and not too many. No other round comes exactly where the worker was told to end, or nothing
-    -- will come any more.
+    -- The same over several rounds: in each at least one thing came, and not too many. No other round comes exactly if
+    -- the worker was asked to end, or nothing will come any more.
     pub record HasServedRounds (n : ℕ) (i : I) (a : Account M.Body) (c : CellOf M Setup Hosted Store U) (goes_on : Bool) (k : I) (b : Account M.Body)
         (d : CellOf M Setup Hosted Store U) : Type 0 where
       pub came : List (Next (JobOf M Setup Hosted Action))
@@ -128,7 +129,7 @@ WhatComesIsServed M Setup Hosted Store {U} tally marked mark {Action} {I} gives 
     (n : ℕ) (may_wait : Bool) (i : I) (a : Account M.Body) (c : CellOf M Setup Hosted Store U) (goes_on leaves_nothing : Bool) (k : I) (b : Account M.Body)
     (d : CellOf M Setup Hosted Store U) → HasDoneRounds M tally marked mark gives n may_wait i a c goes_on leaves_nothing k b d → HasServedRounds M tally marked mark gives n i a c goes_on k b d
 
--- Of the jobs that stand in an inbox, and maybe others behind them, as many at least are served as rounds are done.
+-- If these jobs are in an inbox, maybe with others after them, at least as many are served as rounds are done.
 abbrev pub WhatStandsIsServed : (M : Machine) (Setup Hosted Store : Type 0) {U : Type 0} → (U → Tally) → (M.Body → Option Mark) → (Mark → M.Body) → {Action I : Type 0}
     → (I → Bool → Next (JobOf M Setup Hosted Action) → I → Type 0) → Type 0
 WhatStandsIsServed M Setup Hosted Store {U} tally marked mark {Action} {I} gives =

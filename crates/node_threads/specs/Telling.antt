@@ -1,4 +1,4 @@
--- What a worker has told, and what is still to be told.
+-- What a worker has reported, and what is still to be reported.
 use Rattle.std.specs.Prelude.{◌≡◌, ◌⊎◌, ℕ, length, false, List, Option, Some, None}
 use Rattle.node_cells.specs.Cells.{CellParts}
 use Rattle.node_notes.specs.declared.progress.Progress.{Progress}
@@ -15,21 +15,21 @@ module _ {M G O A L T P S C E : Type 0} where
   progress_of w term =
       record { done = w.done; waiting = length w.requests.waiting.items; lost = (in_term term (queue_of w.requests)).lost; contacts = w.contacts }
 
-  -- the node of a cell and its worker stand so
+  -- this is the state of the node of a cell and of its worker
   pub record StandsSo {Hosted Store U : Type 0} (next_claim : S → List (ℕ × C) → Option ℕ) (c : CellParts S Hosted Store C L T E P U) (w : WorkerLoop M G O A L T P S C E)
       (now : Told) : Type 0 where
     pub status_is : IsStatusOf next_claim c now.status
     pub progress_is : now.progress ≡ progress_of w c.node.state.standing.term
 
-  -- nothing was told: what was to be told still is
+  -- nothing was reported: what was to be reported still is
   pub record IsUntold (old new : WorkerLoop M G O A L T P S C E) : Type 0 where
     pub told_is : new.told ≡ old.told
     pub beat_is : new.has_untold_beat ≡ old.has_untold_beat
     pub leaving_is : leaving new.round ≡ leaving old.round
     pub fault_is : new.round.fault ≡ old.round.fault
 
-  -- The outlet took a report of this node, of how it stands, of all that was to be told of what left, but for what is told next, and of the first
-  -- fault. So that was told last, and no beat is untold.
+  -- The outlet took a report of this node: its state, all effects that were to be reported, except what is reported
+  -- next, and the first fault. So that is the last report, and no beat is unreported.
   pub record HasTold (has_taken : O → Report E → O → Type 0) (stands_so : Told → Type 0) (node : ℕ) (old new : WorkerLoop M G O A L T P S C E) : Type 0 where
     pub now : Told
     pub report : Report E
@@ -41,7 +41,7 @@ module _ {M G O A L T P S C E : Type 0} where
     pub leaving_is : leaving new.round ≡ old.round.further.items
     pub fault_is : new.round.fault ≡ None
 
-  -- nothing is new behind what was told last; or the log grew alone, and no beat is untold
+  -- nothing is new since the last report; or only the log grew, and no beat is unreported
   pub record IsKnown (stands_so : Told → Type 0) (w : WorkerLoop M G O A L T P S C E) : Type 0 where
     pub now : Told
     pub stands : stands_so now

@@ -1,4 +1,4 @@
--- Inputs that a worker gathers, for its node to do together.
+-- Inputs that a worker gathers, for its node to process together.
 use Rattle.std.specs.Prelude.{◌≡◌, ◌⊎◌, ◌≤◌, Bool, true, false, List, [], ◌∷◌, length, take, drop, Option, Some, None, Result, Ok, Err}
 use Rattle.raft_log.specs.Batches.{batch_limit}
 use Rattle.raft_node.specs.Machine.{Machine}
@@ -19,7 +19,7 @@ use Rattle.node_threads.specs.declared.worker_loop.requests.Request.{Request}
 use Rattle.node_threads.specs.declared.worker_loop.round.Round.{Round}
 
 module _ {B L : Type 0} where
-  -- the input that a note is for, where a leader only appends by it
+  -- the input that a note is for, if a leader only appends by it
   abbrev pub input_in : Note B L → Option (NodeInput B L)
   input_in (note.Timeout contacts) = None
   input_in note.Beat = None
@@ -50,12 +50,13 @@ module _ {B L : Type 0} where
   asks_of [] = []
   asks_of (r ∷ waiting) = input.Ask r.body ∷ asks_of waiting
 
-  -- The first of the requests that wait become inputs, as many as go together, and the rest waits; or where there is no memory for that, all wait on.
+  -- The first of the requests that wait become inputs, as many as go together, and the rest waits; or, if memory runs
+  -- out, all still wait.
   abbrev pub TakesFront : List (Request B) → List (NodeInput B L) → List (Request B) → Type 0
   TakesFront old inputs new = ((inputs ≡ asks_of (take batch_limit old)) × (new ≡ drop batch_limit old)) ⊎ ((inputs ≡ []) × (new ≡ old))
 
 module _ {M A L T P S C E : Type 0} where
-  -- the input that a job is for, where a leader only appends by it
+  -- the input that a job is for, if a leader only appends by it
   abbrev pub appended : Job M A L T P S C E → Option (NodeInput C L)
   appended (job.Note note) = input_in note
   appended (job.Look place target reply) = None
@@ -74,36 +75,37 @@ module _ {M A L T P S C E : Type 0} where
   is_idle (job.Status reply) = false
 
 module _ {Setup Hosted Store B L T E P U : Type 0} where
-  -- These inputs may be done together: the node only appends by each, it leads where there is one, and they are not too many.
+  -- These inputs may be processed together: the node only appends by each, it leads if there is one, and there are not
+  -- too many.
   pub record AreReady (inputs : List (NodeInput B L)) (c : CellParts Setup Hosted Store B L T E P U) : Type 0 where
     pub append : OnlyAppend inputs
     pub leads : 1 ≤ length inputs → leads_in c ≡ true
     pub few : length inputs ≤ batch_limit
 
 module _ (M : Machine) {Setup Hosted Store U : Type 0} where
-  -- by what inputs that are done together answer
+  -- by what inputs that are processed together answer
   abbrev pub HaveTurned : CellOf M Setup Hosted Store U → List (NodeInput M.Body M.Line) → Result (List Answer) CellFault → CellOf M Setup Hosted Store U → Type 0
   HaveTurned c inputs (Ok answers) d = AreTurned M c inputs answers d
   HaveTurned c inputs (Err fault) d = AreNoTurns M c inputs fault d
 
-  -- these inputs were done together, in order, or none of them was; and nothing else
+  -- these inputs were processed together, in order, or none of them was; and nothing else
   pub record HasTurnedTogether (c : CellOf M Setup Hosted Store U) (inputs : List (NodeInput M.Body M.Line)) (d : CellOf M Setup Hosted Store U) : Type 0 where
     pub answer : Result (List Answer) CellFault
     pub turned : HaveTurned c inputs answer d
 
-  -- so with what was gathered, if anything was
+  -- the same with what was gathered, if anything was
   abbrev pub HasTurnedAll : List (NodeInput M.Body M.Line) → CellOf M Setup Hosted Store U → CellOf M Setup Hosted Store U → Type 0
   HasTurnedAll [] c d = d ≡ c
   HasTurnedAll (x ∷ inputs) c d = HasTurnedTogether c (x ∷ inputs) d
 
-  -- so, and what they answered was gathered
+  -- and their answers were gathered
   pub record HasGatheredTogether (c : CellOf M Setup Hosted Store U) (inputs : List (NodeInput M.Body M.Line)) (old : Round M.Effect)
       (d : CellOf M Setup Hosted Store U) (new : Round M.Effect) : Type 0 where
     pub answer : Result (List Answer) CellFault
     pub turned : HaveTurned c inputs answer d
     pub gathers : GathersAnswers answer old new
 
-  -- so with what was gathered, if anything was
+  -- the same with what was gathered, if anything was
   abbrev pub HasGatheredAll : List (NodeInput M.Body M.Line) → CellOf M Setup Hosted Store U → Round M.Effect → CellOf M Setup Hosted Store U → Round M.Effect → Type 0
   HasGatheredAll [] c old d new = (d ≡ c) × (new ≡ old)
   HasGatheredAll (x ∷ inputs) c old d new = HasGatheredTogether c (x ∷ inputs) old d new

@@ -40,31 +40,32 @@ module _ {B : Type 0} where
   request_of (Some note) None = None
   request_of (Some note) (Some body) = Some (request note body)
 
-  -- The request that a message brings back to its sender, where its receiver did not take it. The sender is in this term, knows this leader, and asked
-  -- this request last, which did not come back yet. A request of an earlier term, or to another leader, does not come back.
+  -- The request that a message brings back to its sender, if its receiver did not take it. The sender is in this term,
+  -- knows this leader, and last asked this request, which has not come back yet. A request of an earlier term, or to
+  -- another leader, does not come back.
   abbrev pub brought_back : ℕ → Option ℕ → Option Asked → Message B → Option (Request B)
   brought_back term leader asked m =
       if nat_eq m.term term && is_leader_of leader m.to then request_of (note_in term asked) (forwarded_body m.kind) else None
 
-  -- it waits before all others, or where there is no memory for it, it may be lost; and it does not come back again
+  -- it waits before all others, or, if memory runs out, may be lost; and it does not come back again
   abbrev pub ComesBack : Option (Request B) → Queue B → Queue B → Type 0
   ComesBack None old new = new ≡ old
   ComesBack (Some r) old new = WaitsOrIsLost r.note (in_front r (settled old)) (settled old) new
 
-  -- so with each of these messages, in order
+  -- the same with each of these messages, in order
   abbrev pub AreBack : ℕ → Option ℕ → List (Envelope B) → Queue B → Queue B → Type 0
   AreBack term leader [] old new = new ≡ old
   AreBack term leader (e ∷ es) old new = (m : Queue B) × ComesBack (brought_back term leader old.asked e.message) old m × AreBack term leader es m new
 
-  -- While none was asked, these came back: none, or the request that was asked last, once, where it could still come back. In its term the leader
-  -- did not take it: of a turn AreBack says so.
+  -- While none was asked, these came back: none, or the request that was last asked, once, if it could still come back.
+  -- In its term the leader did not take it: AreBack says so of a turn.
   abbrev pub CameBack : Option Asked → List (Request B) → Option Asked → Type 0
   CameBack asked [] now = (now ≡ asked) ⊎ (now ≡ at_rest asked)
   CameBack asked (r ∷ []) now = (term : ℕ) × (asked ≡ Some (record { note = r.note; term = term; may_return = true })) × (now ≡ at_rest asked)
   CameBack asked (r ∷ q ∷ more) now = ⊥
 
-  -- Where a request came back, it waits before all others. Where there was no memory for it, it may be lost. Nothing else of the requests changed, and no
-  -- note was taken up.
+  -- A request that came back waits before all others. If memory ran out, it may be lost. Nothing else about the
+  -- requests changed, and no note was taken up.
   pub record HaveComeBack (old new : Account B) : Type 0 where
     pub back : List (Request B)
     pub waiting_is : new.requests.waiting ≡ back ++ old.requests.waiting
@@ -72,25 +73,26 @@ module _ {B : Type 0} where
     pub lost_grows : old.requests.lost ≤ new.requests.lost
     pub done_is : new.done ≡ old.done
 
-  -- The first request that waits is asked in this term, where one is asked, and then requests may have come back.
+  -- The first request that waits is asked in this term, if one is asked, and then requests may have come back.
   abbrev pub AsksFirst : ℕ → Bool → Account B → Account B → Type 0
   AsksFirst term true old new = (body : B) × (left : Queue B) × HasAsked term old.requests (Some body) left × HaveComeBack (record old { requests = left }) new
   AsksFirst term false old new = new ≡ old
 
-  -- The first of the requests that wait are asked together in this term, as many as go at once, and the others wait on.
+  -- The first of the requests that wait are asked together in this term, as many as go at once, and the others still
+  -- wait.
   pub record AsksFront (term : ℕ) (old new : Account B) : Type 0 where
     pub waiting_is : new.requests.waiting ≡ drop batch_limit old.requests.waiting
     pub asked_is : new.requests.asked ≡ last_asked term (take batch_limit old.requests.waiting) old.requests.asked
     pub lost_grows : old.requests.lost ≤ new.requests.lost
     pub done_is : new.done ≡ old.done
 
-  -- a note was taken up, where the node was told it
+  -- a note was taken up, if the driver sent it
   abbrev pub counted : Bool → Account B → Account B
   counted is_told a = record a { done = if is_told then min (a.done + 1) (2 ^ 64 - 1) else a.done }
 
 module _ {B L : Type 0} where
-  -- By a note that is taken up: a request waits behind all others, or where there is no memory for it, it may be lost; and a restart ends all that wait.
-  -- By any other note none goes.
+  -- What a note that is taken up does: a request waits after all others, or, if memory runs out, may be lost; a restart
+  -- ends all that wait; any other note removes none.
   abbrev pub HeedsNote : Note B L → Account B → Account B → Type 0
   HeedsNote (note.Timeout contacts) a b = HaveComeBack a b
   HeedsNote note.Beat a b = HaveComeBack a b
@@ -104,7 +106,7 @@ module _ {B L : Type 0} where
   HeedsNote note.End a b = HaveComeBack a b
 
 module _ {M A L T P S C E : Type 0} where
-  -- so by a job
+  -- the same for a job
   abbrev pub HeedsJob : Job M A L T P S C E → Account C → Account C → Type 0
   HeedsJob (job.Note n) a b = HeedsNote n a b
   HeedsJob (job.Look place target reply) a b = HaveComeBack a b
@@ -118,7 +120,7 @@ module _ {M A L T P S C E : Type 0} where
   HeedsUnless true j a b = b ≡ a
   HeedsUnless false j a b = HeedsJob j (counted (is_told j) a) b
 
-  -- so by these jobs, in order
+  -- the same for these jobs, in order
   abbrev pub Heeds : List (Job M A L T P S C E) → Account C → Account C → Type 0
   Heeds [] a b = b ≡ a
   Heeds (j ∷ js) a b = (m : Account C) × HeedsUnless (is_end j) j a m × Heeds js m b

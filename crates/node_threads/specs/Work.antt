@@ -39,35 +39,35 @@ apply_limit = MOST_APPLIED
 abbrev pub ask_limit : ℕ
 ask_limit = MOST_ASKED
 
--- one thing that a worker does with its node beside its jobs
+-- one thing that a worker does with its node besides its jobs
 pub data Deed (B L : Type 0) : Type 0 where
-  -- it takes what lies in the mailbox from the node at this place, and turns what lay there
+  -- it takes the message in the mailbox from the node at this place, and processes it
   Takes : ℕ → Deed B L
-  -- it turns an input
+  -- it processes an input
   Turns : NodeInput B L → Deed B L
 
 module _ {B L : Type 0} where
-  -- the mailbox from the node at this place is taken, where it is not left
+  -- the mailbox from the node at this place is taken, if it is not left
   abbrev pub takes_unless : Bool → ℕ → List (Deed B L)
   takes_unless true place = []
   takes_unless false place = Takes place ∷ []
 
-  -- each mailbox from so many nodes is taken once, by rising number of the sender, but for that from this node
+  -- each mailbox from this many nodes is taken once, by rising number of the sender, except one that is left
   abbrev pub takes_but : Option ℕ → ℕ → List (Deed B L)
   takes_but left zero = []
   takes_but left (suc n) = takes_but left n ++ takes_unless (is_left left n) n
 
-  -- so many places are applied
+  -- this many places are applied
   abbrev pub applies : ℕ → List (Deed B L)
   applies zero = []
   applies (suc n) = Turns input.Apply ∷ applies n
 
-  -- a beat, where there is news
+  -- a beat, if there is news
   abbrev pub beats_on : Bool → List (Deed B L)
   beats_on true = Turns input.Beat ∷ []
   beats_on false = []
 
-  -- the node asks for votes, where it waited too long
+  -- the node asks for votes, if it waited too long
   abbrev pub times_out : Bool → List (Deed B L)
   times_out true = Turns input.Timeout ∷ []
   times_out false = []
@@ -82,7 +82,7 @@ module _ (M : Machine) {Setup Hosted Store U : Type 0} where
   abbrev pub HasTriedAgain : CellOf M Setup Hosted Store U → CellOf M Setup Hosted Store U → Type 0
   HasTriedAgain c d = (answer : Result (Unit {0}) CellFault) × HasRestarted M c answer d
 
-  -- one look into a mailbox: the delivery of what lay there comes next
+  -- one look into a mailbox: the delivery of its message comes next
   pub record HasTaken (c : CellOf M Setup Hosted Store U) (from : ℕ) (next : Option (NodeInput M.Body M.Line)) (d : CellOf M Setup Hosted Store U) : Type 0 where
     pub came : Option (Envelope M.Body)
     pub next_is : next ≡ option_map input.Deliver came
@@ -94,7 +94,7 @@ module _ (M : Machine) {Setup Hosted Store U : Type 0} where
       pub answer : Result (TurnOutput M.Body M.Effect) CellFault
       pub turned : HasTurned M tally c x answer d
 
-    -- so, and what it gave was gathered
+    -- and what it gave was gathered
     pub record HasGathered (c : CellOf M Setup Hosted Store U) (x : NodeInput M.Body M.Line) (old : Round M.Effect) (forwarded : Option ℕ) (requests : Queue M.Body)
         (d : CellOf M Setup Hosted Store U) (new : Round M.Effect) (now_forwarded : Option ℕ) (now_requests : Queue M.Body) : Type 0 where
       pub answer : Result (TurnOutput M.Body M.Effect) CellFault
@@ -106,7 +106,7 @@ module _ (M : Machine) {Setup Hosted Store U : Type 0} where
     HasTurnedIn None c d = d ≡ c
     HasTurnedIn (Some x) c d = HasHadTurn c x d
 
-    -- one look into a mailbox, and a turn of what lay there
+    -- one look into a mailbox, and a turn of its message
     pub record HasLookedIn (c : CellOf M Setup Hosted Store U) (from : ℕ) (d : CellOf M Setup Hosted Store U) : Type 0 where
       pub came : Option (Envelope M.Body)
       pub between : CellOf M Setup Hosted Store U
@@ -122,81 +122,84 @@ module _ (M : Machine) {Setup Hosted Store U : Type 0} where
     Does [] c d = d ≡ c
     Does (e ∷ es) c d = (b : CellOf M Setup Hosted Store U) × HasDeed e c b × Does es b d
 
-    -- each mailbox of the group was taken once, by rising number of the sender, but for that from this node; and nothing else was done
+    -- each mailbox of the group was taken once, by rising number of the sender, except one that is left; and nothing
+    -- else was done
     abbrev pub HasTakenBut : Option ℕ → CellOf M Setup Hosted Store U → CellOf M Setup Hosted Store U → Type 0
     HasTakenBut left c d = Does (takes_but left c.ether.size) c d
 
-    -- this request is asked, where the node may ask
+    -- this request is asked, if the node may ask
     abbrev pub AsksWhere : M.Body → Bool → Bool → CellOf M Setup Hosted Store U → CellOf M Setup Hosted Store U → Type 0
     AsksWhere body true true c d = HasHadTurn c (input.Ask body) d
     AsksWhere body true false c d = ⊥
     AsksWhere body false true c d = ⊥
     AsksWhere body false false c d = d ≡ c
 
-    -- one look whether the node may ask, and this request is asked where it may
+    -- one look whether the node may ask, and this request is asked if it may
     pub record HasTriedAsking (body : M.Body) (asked : Bool) (c d : CellOf M Setup Hosted Store U) : Type 0 where
       pub may : Bool
       pub seen : CellOf M Setup Hosted Store U
       pub looked : MayAsk c may seen
       pub asks : AsksWhere body may asked seen d
 
-    -- so with the first of the requests that wait, if one does
+    -- the same with the first of the requests that wait, if there is one
     abbrev pub HasAskedFirstOf : List (Request M.Body) → Bool → CellOf M Setup Hosted Store U → CellOf M Setup Hosted Store U → Type 0
     HasAskedFirstOf [] asked c d = (asked ≡ false) × (d ≡ c)
     HasAskedFirstOf (r ∷ waiting) asked c d = HasTriedAsking r.body asked c d
 
-    -- so, and it waits no more, where it was asked: each request that waits is asked once
+    -- and it no longer waits, if it was asked: each request that waits is asked once
     pub record HasAskedOne (a : Account M.Body) (asked : Bool) (c : CellOf M Setup Hosted Store U) (b : Account M.Body) (d : CellOf M Setup Hosted Store U) : Type 0 where
       pub cell : HasAskedFirstOf a.requests.waiting asked c d
       pub requests : AsksFirst (term_in c) asked a b
 
-    -- Requests were asked one by one, so many at most. Either a try asked none, since none waits or the node may not ask, and with that it is over; or each
-    -- try asked one, and there may be more.
+    -- Requests were asked one by one, at most this many. Either a try asked none, because none waits or the node may
+    -- not ask, and with that it is over; or each try asked one, and there may be more.
     abbrev pub HasAskedUpTo : ℕ → Account M.Body → CellOf M Setup Hosted Store U → Bool → Account M.Body → CellOf M Setup Hosted Store U → Type 0
     HasAskedUpTo zero a c is_over b d = (is_over ≡ false) × (b ≡ a) × (d ≡ c)
     HasAskedUpTo (suc n) a c is_over b d =
         (HasAskedOne a false c b d × (is_over ≡ true))
         ⊎ ((m : Account M.Body) × (e : CellOf M Setup Hosted Store U) × HasAskedOne a true c m e × HasAskedUpTo n m e is_over b d)
 
-    -- so, as many at most as a round asks one by one
+    -- at most as many as a round asks one by one
     abbrev pub HasAskedEach : Account M.Body → CellOf M Setup Hosted Store U → Bool → Account M.Body → CellOf M Setup Hosted Store U → Type 0
     HasAskedEach a c is_over b d = (n : ℕ) × (n ≡ ask_limit) × HasAskedUpTo n a c is_over b d
 
-    -- a node that leads was asked the first of the requests that wait, together, as many as go at once, and the others wait on
+    -- a node that leads was asked the first of the requests that wait, together, as many as go at once, and the others
+    -- still wait
     pub record HasAskedTogether (a : Account M.Body) (c : CellOf M Setup Hosted Store U) (b : Account M.Body) (d : CellOf M Setup Hosted Store U) : Type 0 where
       pub leads : leads_in c ≡ true
       pub turned : HasTurnedAll M (asks_of (take batch_limit a.requests.waiting)) c d
       pub requests : AsksFront (term_in c) a b
 
-    -- so, or nothing was done
+    -- that, or nothing was done
     abbrev pub HasTriedTogether : Account M.Body → Bool → CellOf M Setup Hosted Store U → Account M.Body → CellOf M Setup Hosted Store U → Type 0
     HasTriedTogether a true c b d = HasAskedTogether a c b d
     HasTriedTogether a false c b d = (b ≡ a) × (d ≡ c)
 
-    -- Requests that wait were asked: together, or one by one where the node does not lead, or there is no memory for that. It is over where none waits, or
-    -- the node may not ask more now.
+    -- Requests that wait were asked: together, or one by one if the node does not lead, or memory ran out. It is over
+    -- if none waits, or the node may not ask more now.
     abbrev pub HasAskedOn : Account M.Body → CellOf M Setup Hosted Store U → Bool → Account M.Body → CellOf M Setup Hosted Store U → Type 0
     HasAskedOn a c is_over b d = (HasAskedTogether a c b d × ((is_over ≡ true) ↔ (b.requests.waiting ≡ []))) ⊎ HasAskedEach a c is_over b d
 
-    -- the first request that waits is asked, where it is to be asked before the mailboxes are taken
+    -- the first request that waits is asked, if it is to be asked before the mailboxes are taken
     abbrev pub AsksBefore : Bool → Account M.Body → CellOf M Setup Hosted Store U → Account M.Body → CellOf M Setup Hosted Store U → Type 0
     AsksBefore true a c b d = (asked : Bool) × HasAskedOne a asked c b d
     AsksBefore false a c b d = (b ≡ a) × (d ≡ c)
 
-    -- so many agreed places were applied
+    -- this many agreed places were applied
     abbrev pub HasApplied : CellOf M Setup Hosted Store U → CellOf M Setup Hosted Store U → Type 0
     HasApplied c d = (n : ℕ) × Does (applies n) c d
 
     abbrev pub HasAppliedSo : ℕ → CellOf M Setup Hosted Store U → CellOf M Setup Hosted Store U → Type 0
     HasAppliedSo many c d = (n : ℕ) × (n ≡ many) × Does (applies n) c d
 
-    -- All mailboxes were taken. Then the node asked for votes, where it leads not and had heard few enough times of a leader.
+    -- All mailboxes were taken. Then the node asked for votes, if it does not lead and had heard few enough times of a
+    -- leader.
     pub record HasTimedOut (is_few : Bool) (c d : CellOf M Setup Hosted Store U) : Type 0 where
       pub between : CellOf M Setup Hosted Store U
       pub taken : HasTakenBut None c between
       pub turned : Does (times_out (is_few && not (leads_in between))) between d
 
-    -- what a note comes to: a turn of it, a restart, or nothing; a request waits for a leader
+    -- what a note does: a turn of it, a restart, or nothing; a request waits for a leader
     abbrev pub HasDoneNote : Note M.Body M.Line → CellOf M Setup Hosted Store U → CellOf M Setup Hosted Store U → Type 0
     HasDoneNote (note.Timeout contacts) c d = (is_few : Bool) × HasTimedOut is_few c d
     HasDoneNote note.Beat c d = HasHadTurn c input.Beat d
@@ -209,14 +212,15 @@ module _ (M : Machine) {Setup Hosted Store U : Type 0} where
     HasDoneNote note.Restart c d = HasTriedAgain c d
     HasDoneNote note.End c d = d ≡ c
 
-    -- the node beats, where there is news
+    -- the node beats, if there is news
     abbrev pub HasBeaten : Bool → CellOf M Setup Hosted Store U → CellOf M Setup Hosted Store U → Type 0
     HasBeaten has_news c d = Does (beats_on has_news) c d
 
-    -- What a round does behind its jobs. A node that knows a leader, to which it posted no request last, asks the first that waits. Then the
-    -- mailboxes are taken, but for that of the leader to which a request lies that it did not take. Then requests are asked, agreed places are
-    -- applied, and where there is news, the node beats. A request waits until it is asked, and waits again where it comes back. Nothing is left to do where
-    -- no request was left that the node may ask, nothing to apply and nothing to tell.
+    -- What a round does after its jobs. A node that knows a leader, and did not last post a request to it, asks the
+    -- first that waits. Then the mailboxes are taken, except that of a leader that has not taken a request. Then
+    -- requests are asked, agreed places are applied, and if there is news, the node beats. A request waits until it is
+    -- asked, and waits again if it comes back. Nothing is left to do if no request was left that the node may ask,
+    -- nothing to apply and nothing to report.
     pub record HasGoneRound (forwarded : Option ℕ) (a : Account M.Body) (c : CellOf M Setup Hosted Store U) (leaves_nothing : Bool) (b : Account M.Body)
         (d : CellOf M Setup Hosted Store U) : Type 0 where
       pub first : CellOf M Setup Hosted Store U
@@ -250,7 +254,7 @@ module _ (M : Machine) {Setup Hosted Store U : Type 0} where
         pub result_is : result ≡ number_in answer
         pub asked : HasMarked M tally marked mark c answer d
 
-      -- so, and what that gave was gathered
+      -- and its result was gathered
       pub record HasGatheredMark (c : CellOf M Setup Hosted Store U) (old : Round M.Effect) (forwarded : Option ℕ) (requests : Queue M.Body)
           (d : CellOf M Setup Hosted Store U) (new : Round M.Effect) (now_forwarded : Option ℕ) (now_requests : Queue M.Body) : Type 0 where
         pub answer : Result (MarkTurn M.Body M.Effect) CellFault
@@ -258,7 +262,7 @@ module _ (M : Machine) {Setup Hosted Store U : Type 0} where
         pub gathers : GathersMark M.class (term_in d) (leader_in d) answer old forwarded requests new now_forwarded now_requests
 
     module _ (marked : M.Body → Option Mark) (mark : Mark → M.Body) {Action : Type 0} where
-      -- what a job comes to by itself
+      -- what a job does by itself
       abbrev pub HasDone : Job Hosted Action M.Line M.Target M.Played Setup M.Body M.Effect → CellOf M Setup Hosted Store U → CellOf M Setup Hosted Store U → Type 0
       HasDone (job.Note note) c d = HasDoneNote note c d
       HasDone (job.Look place target reply) c d = (answer : Result (PlayedAt M.Played) CellFault) × HasLooked M tally c place target answer d

@@ -3,9 +3,9 @@
 /// Whether the worker of a leader sends to the other nodes by itself.
 #[derive(Clone, Copy, Debug, PartialEq, Eq)]
 pub enum Beats {
-    /// It sends at the end of a round in which its log or what is agreed of it grew, or a node that lags
-    /// behind it answered; and where it is told to.
+    /// It sends at the end of a round in which its log or the agreed part of it grew, or a lagging node answered; and
+    /// when it is asked to.
     OnNews,
-    /// It sends where it is told to.
+    /// It sends only when it is asked to.
     WhenTold,
 }

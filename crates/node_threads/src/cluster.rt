@@ -35,7 +35,7 @@ pub struct Cluster<M: Marking, S: Stable<M::Command>, U: Upstream, L: Opener<S> 
     inboxes: Vec<Sender<Job<M>>>,
     /// Node 1's first.
     threads: Vec<Running<M, S, U, L>>,
-    /// For what they leave.
+    /// Collects what they leave.
     closing: Closing<M>,
 }
 
@@ -68,7 +68,7 @@ impl<M: Marking, S: Stable<M::Command>, U: Upstream, L: Opener<S>> Cluster<M, S,
         Ok(NodeHandle::new(self.alloc, inbox))
     }
 
-    /// Where another thread puts what a node is told.
+    /// Where another thread puts notes for a node.
     pub fn inlet(&self, node: NodeId) -> Result<Inlet<M>, ClusterFault>
         ensures { IsTold self.now.ether.size node result }
     {
@@ -81,7 +81,7 @@ impl<M: Marking, S: Stable<M::Command>, U: Upstream, L: Opener<S>> Cluster<M, S,
         }
     }
 
-    /// All workers end, and are joined. Gives what the nodes recorded, node 1's first.
+    /// All workers end, and are joined. Returns what the nodes recorded, node 1's first.
     ///
     /// What waits in an inbox by then is done first. A node that was never opened leaves a record with no turns.
     pub fn stop<R: Threads + Wait>(
@@ -116,14 +116,14 @@ fn inbox_of<I>(inboxes: &[I], node: NodeId) -> Result<&I, ClusterFault>
     }
 }
 
-/// All workers are told to end.
+/// Asks all workers to end.
 fn end_all<M: Marking>(rt: &impl Wait, inboxes: &[Sender<Job<M>>]) {
     for inbox in inboxes {
         end(rt, inbox);
     }
 }
 
-/// A worker is told to end. Where there is no memory for that, it is told again.
+/// Asks a worker to end, again if memory ran out.
 fn end<M: Marking>(rt: &impl Wait, inbox: &Sender<Job<M>>) {
     for _ in rt.forever() {
         match put(rt, inbox, Job::Note(Note::End)) {

@@ -7,7 +7,7 @@ use thiserror::Error;
 /// Why a call of a cluster failed.
 #[derive(Clone, Copy, Debug, Drop, PartialEq, Eq, Error)]
 pub enum ClusterFault {
-    /// There is no memory, or no thread can be had.
+    /// Memory ran out, or no thread can be had.
     #[error("out of memory")]
     Memory,
     /// There is no node of this number.

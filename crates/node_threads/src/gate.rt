@@ -8,7 +8,7 @@ pub trait Gate {
     fn pass<R: Wait>(&self, rt: &R, node: u8, turn: u64);
 }
 
-/// Holds nobody.
+/// Holds no worker.
 #[derive(Drop)]
 pub struct OpenGate;
 
@@ -16,7 +16,7 @@ impl Gate for OpenGate {
     fn pass<R: Wait>(&self, _rt: &R, _node: u8, _turn: u64) {}
 }
 
-/// A worker of this node comes to so many turns more.
+/// A worker of this node comes to several more turns.
 pub(crate) fn pass_gates<R: Wait, G: Gate>(
     rt: &R,
     gate: &G,
@@ -29,7 +29,7 @@ pub(crate) fn pass_gates<R: Wait, G: Gate>(
     }
 }
 
-/// A worker of this node comes to one turn more.
+/// A worker of this node comes to one more turn.
 pub(crate) fn pass_gate<R: Wait, G: Gate>(rt: &R, gate: &G, node: NodeId, turns: &mut u64) {
     *turns = turns.saturating_add(1);
     gate.pass(rt, node.value(), *turns);

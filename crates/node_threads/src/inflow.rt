@@ -1,4 +1,4 @@
-//! Where a worker takes what it has to do.
+//! Where a worker takes its jobs.
 
 use crossbeam_channel::{Receiver, TryRecvError};
 use std::sync::Wait;
@@ -13,22 +13,22 @@ pub enum Next<J> {
     Over,
 }
 
-/// Gives jobs, one after the other. What is proved of those who take them is proved over any inflow: then
-/// nothing but `next` says that a job came.
+/// Gives jobs, one after the other. What is proved of those who take them is proved over any inflow: only `next` says
+/// that a job came.
 pub trait Inflow<J> {
     ghost use Rattle.std.specs.Prelude.{Bool};
     ghost use Rattle.node_threads.specs.declared.inflow.Next.{Next};
 
-    /// That it might wait or not, gave this next, and is as it is since.
+    /// It gave this next, and might or might not wait for it, and is in this state since.
     ghost gives: { Self → Bool → Next J → Self → Type 0 };
 
-    /// Waits for a job where it may.
+    /// Waits for a job if it may.
     fn next<R: Wait>(&mut self, rt: &R, may_wait: bool) -> Next<J>
         ensures { gives self.old may_wait result self.new };
 }
 
 impl<J: Drop> Inflow<J> for Receiver<J> {
-    // what comes out of a channel, no clause says
+    // no clause says what comes out of a channel
     ghost gives = { λ _ _ _ _. Unit {0} };
 
     fn next<R: Wait>(&mut self, rt: &R, may_wait: bool) -> Next<J> {

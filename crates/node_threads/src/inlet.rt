@@ -1,4 +1,4 @@
-//! Where other threads put what a node is told.
+//! Where other threads put notes for a node.
 ghost use Rattle.std.specs.Prelude.{◌≡◌};
 
 use crate::job::Job;
@@ -7,8 +7,8 @@ use crossbeam_channel::Sender;
 use machine_laws::{Hosted, Machine};
 use std::alloc::Global;
 
-/// Where a thread of its own puts what a node is told, while the cluster's own thread waits. It may
-/// outlive the cluster.
+/// Where another thread puts notes for a node, while the cluster's own thread waits. It may outlive
+/// the cluster.
 #[derive(Drop)]
 pub struct Inlet<M: Hosted> {
     pub(crate) alloc: Global,
@@ -16,7 +16,7 @@ pub struct Inlet<M: Hosted> {
 }
 
 impl<M: Hosted> Inlet<M> {
-    /// The node that is told.
+    /// The node that gets them.
     pub fn node(&self) -> NodeHandle<'_, M, Sender<Job<M>>>
         ensures { result.inbox.now ≡ self.now.inbox }
     {

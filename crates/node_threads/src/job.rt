@@ -19,22 +19,21 @@ use world_views::NodeInput;
 pub enum Job<M: Hosted> {
     /// A note is for its node.
     Note(Note<M::Command, M::Line>),
-    /// A target is to be played, where what was applied reaches to a place.
+    /// A target is to be played, once the node has applied its log up to a place.
     Look(u64, M::Target, Sender<Result<Looked<M::Played>, CellFault>>),
     /// A mark is to be asked for.
     Mark(Sender<Result<u64, CellFault>>),
-    /// A target is to be played, where the node has applied its mark of this number, or a later
-    /// one.
+    /// A target is to be played, if the node has applied its mark of this number, or a later one.
     LookAfter(u64, M::Target, Sender<Result<Looked<M::Played>, CellFault>>),
     /// The node is to be started again.
     Restart(Sender<Result<(), CellFault>>),
-    /// How the node stands is asked.
+    /// The state of the node is asked for.
     Status(Sender<Status>),
 }
 
 impl<M: Hosted> Job<M> {
-    /// Whether the node was told this, so that it counts as done. What another worker tells, or a
-    /// caller that waits for its answer, does not.
+    /// Whether the driver sent this, so that it counts as done. What another worker sends, or a
+    /// caller that waits for its answer, does not count.
     pub fn is_told(&self) -> bool
         ensures { result ≡ is_told self.now }
     {
@@ -46,15 +45,15 @@ impl<M: Hosted> Job<M> {
         }
     }
 
-    /// Whether the worker is told to end.
+    /// Whether it asks the worker to end.
     pub(crate) fn is_end(&self) -> bool
         ensures { result ≡ is_end self.now }
     {
         matches!(self, Job::Note(Note::End))
     }
 
-    /// Whether it does nothing with the node, and asks nothing of it: a request waits until it is asked, and
-    /// a wake is for the worker.
+    /// Whether it does nothing with the node, and asks nothing of it: a request waits until it is asked, and a wake is
+    /// for the worker.
     pub(crate) fn is_idle(&self) -> bool
         ensures { result ≡ is_idle self.now }
     {
@@ -64,7 +63,7 @@ impl<M: Hosted> Job<M> {
         }
     }
 
-    /// The input that it is for, where a leader only appends by that; else the job.
+    /// The input that it is for, if a leader only appends by it; else the job.
     pub(crate) fn into_append(self) -> Result<NodeInput<M::Command, M::Line>, Job<M>>
         ensures input { IfOk result (λ input. appended self ≡ Some input) }
         ensures job { IfErr result (λ job. (job ≡ self) × (appended self ≡ None)) }
@@ -78,7 +77,7 @@ impl<M: Hosted> Job<M> {
         }
     }
 
-    /// Whether it is a look that may come too early: there may be many, and nothing comes of most.
+    /// Whether it is a look that may come too early: there may be many, and most do nothing.
     pub fn waits(&self) -> bool
         ensures { result ≡ waits self.now }
     {
@@ -86,7 +85,7 @@ impl<M: Hosted> Job<M> {
     }
 }
 
-/// The input that a note is for, where a leader only appends by that; else the note.
+/// The input that a note is for, if a leader only appends by it; else the note.
 fn append_of<B: Wire, L>(note: Note<B, L>) -> Result<NodeInput<B, L>, Note<B, L>>
     ensures input { IfOk result (λ input. input_in note ≡ Some input) }
     ensures note { IfErr result (λ other. (other ≡ note) × (input_in note ≡ None)) }
@@ -100,7 +99,7 @@ fn append_of<B: Wire, L>(note: Note<B, L>) -> Result<NodeInput<B, L>, Note<B, L>
     }
 }
 
-/// Puts something into an inbox. `Stopped` where nobody takes from it any more.
+/// Puts something into an inbox. `Stopped` if nobody takes from it any more.
 pub fn put<T: Drop>(rt: &impl Wait, inbox: &Sender<T>, message: T) -> Result<(), ClusterFault>
     ensures { IfErr result IsUndelivered }
 {

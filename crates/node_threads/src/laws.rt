@@ -1,4 +1,4 @@
-//! What holds of a worker over any number of rounds, as contracts of functions that do nothing.
+//! Laws of a worker over any number of rounds, as contracts of functions that do nothing.
 ghost use Rattle.node_threads.specs.Served.{RequestsAreCounted, WhatComesIsServed, WhatStandsIsServed};
 
 use crate::inflow::Inflow;
@@ -8,24 +8,25 @@ use node_cells::Upstream;
 use raft_node::Described;
 use stable_store::Stable;
 
-/// Over any number of rounds, with whatever comes in its inbox, a worker does each job that is for its node once and in
-/// order. Each request that it is told is asked, or ended by a restart, or found no memory, or waits on: one of these, and
-/// once more each time it comes back. The worker's loop does such rounds.
+/// Over any number of rounds, whatever comes in its inbox, a worker does each job that is for its node once and in
+/// order. Each request that it gets is asked, or ended by a restart, or dropped because memory ran out, or still waits:
+/// exactly one of these, and once more each time it comes back. The worker's loop does such rounds.
 pub fn what_comes_is_served<M: Marking, S: Stable<M::Command>, U: Upstream, I: Inflow<Job<M>>>()
     ensures { (s : M.Setup) → WhatComesIsServed (⟦<M as Described>⟧.machine s) M.Setup M S U.tally
         M.marked M.mark I.gives }
 {}
 
-/// After as many rounds as jobs stand in the inbox, or more, all of those have come: each that is for the node is done, and
-/// each request among them was asked, ended, found no memory, or waits on.
+/// After at least as many rounds as there are jobs in the inbox, all of those have come: each that is for the node is
+/// done, and each request among them was asked, ended, dropped because memory ran out, or still waits.
 pub fn what_stands_is_served<M: Marking, S: Stable<M::Command>, U: Upstream, I: Inflow<Job<M>>>()
     ensures { (s : M.Setup) → WhatStandsIsServed (⟦<M as Described>⟧.machine s) M.Setup M S U.tally
         M.marked M.mark I.gives }
 {}
 
-/// As often as a request was asked, ended by a restart, found no memory or waits on, it had waited, was told or came back.
-/// So none is forgotten, and none is asked once more than it was told and came back. None came back more often than it was
-/// asked, and once more where it was the last that was asked before.
+/// The number of times that a request was asked, ended by a restart, dropped because memory ran out or still waits is
+/// the number of times that it had waited, was sent or came back. So none is forgotten, and none is asked more often
+/// than it was sent and came back. None came back more often than it was asked, and once more if it was the last that
+/// was asked before.
 pub fn requests_are_counted<M: Marking, S: Stable<M::Command>, U: Upstream, I: Inflow<Job<M>>>()
     ensures { (s : M.Setup) → RequestsAreCounted (⟦<M as Described>⟧.machine s) M.Setup M S U.tally
         M.marked M.mark I.gives }

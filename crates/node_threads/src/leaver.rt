@@ -9,9 +9,9 @@ use node_cells::{Closing, Upstream};
 use stable_store::Stable;
 use std::thread::Threads;
 
-/// A thread that leaves something, which is put with what others left.
+/// A thread that leaves something, which is added to what others left.
 pub trait Leaver<C>: Drop {
-    /// That it may be put with what others left.
+    /// That it may be added to what others left.
     ghost can_join: { C → Self → Type 0 };
 
     /// What was left, before and after.

@@ -1,8 +1,7 @@
-//! The nodes of one process, each in a thread of its own, which alone has the node's cell.
-//! Stands under bouncer_run, and under node_cases.
-//! A cluster starts with each node over the store of its part, or says why not; what it leaves are the records of one
-//! group, which replay over honest stores. A node whose store is not there yet is down until its opener gives the
-//! store, and then it is as the others are.
+//! The nodes of one process, each in a thread of its own, which alone has the node's cell. bouncer_run and node_cases
+//! use it. A cluster starts with each node over the store of its part, or says why not. What it leaves are the records
+//! of one group, which replay over honest stores. A node whose store is not there yet is down until its opener gives
+//! the store, and from then on it is like the others.
 #![tactic(auto)]
 
 mod beats;

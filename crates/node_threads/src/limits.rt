@@ -6,8 +6,8 @@ ghost use Rattle.node_threads.specs.declared.worker_loop.jobs.TheConstants.{MOST
 ghost use Rattle.node_threads.specs.declared.worker_loop.telling.TheConstants.{MOST_UNTOLD};
 ghost use Rattle.node_threads.specs.declared.worker_loop.turning.TheConstants.{MOST_APPLIED};
 
-/// How many requests a round asks, how many jobs are done alone, how many entries are applied, and how many notes may be
-/// done that are untold: fewer than may be told before one of them is.
+/// How many requests a round asks, how many jobs are done alone, how many entries are applied, and how many notes may
+/// be done without a report: fewer than the driver sends before it waits for one.
 pub fn limits_of_rounds()
     ensures asked { MOST_ASKED ≡ 16 }
     ensures alone { MOST_ALONE ≡ 16 }

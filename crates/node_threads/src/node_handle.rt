@@ -20,7 +20,7 @@ use std::sync::Wait;
 mod confirming;
 mod jobs;
 
-/// A node of a cluster, as it is called. `Stopped` is answered where its worker is gone.
+/// A node of a cluster, as it is called. The answer is `Stopped` if its worker is gone.
 #[derive(Drop)]
 pub struct NodeHandle<'a, M, I> {
     alloc: Global,
@@ -29,7 +29,7 @@ pub struct NodeHandle<'a, M, I> {
 }
 
 impl<'a, M: Hosted, I: Inbox<Job<M>>> NodeHandle<'a, M, I> {
-    /// The node whose worker's inbox this is.
+    /// The node of the worker with this inbox.
     pub(crate) fn new(alloc: Global, inbox: &'a I) -> NodeHandle<'a, M, I>
         ensures { result.inbox.now ≡ inbox.now }
     {
@@ -40,7 +40,7 @@ impl<'a, M: Hosted, I: Inbox<Job<M>>> NodeHandle<'a, M, I> {
         }
     }
 
-    /// The node is told something; the call does not wait for what comes of it.
+    /// Sends the node a note; the call does not wait for what comes of it.
     pub fn submit(
         &self,
         rt: &impl Wait,
@@ -52,7 +52,7 @@ impl<'a, M: Hosted, I: Inbox<Job<M>>> NodeHandle<'a, M, I> {
         self.inbox.put(rt, Job::Note(note))
     }
 
-    /// A playback of a target, where what the node applied reaches to a place.
+    /// A playback of a target, once the node has applied its log up to a place.
     pub fn look(
         &self,
         rt: &impl Wait,
@@ -66,7 +66,7 @@ impl<'a, M: Hosted, I: Inbox<Job<M>>> NodeHandle<'a, M, I> {
         ask(rt, self.inbox, job, &answer)
     }
 
-    /// The node is started again over its store.
+    /// Starts the node again over its store.
     pub fn restart(&self, rt: &impl Wait) -> Result<(), ClusterFault>
         ensures asked { IsAsked IsRestartJob (I.has_put self.now.inbox.now) result }
         ensures fault { IsNotOfCaller result }
@@ -75,7 +75,7 @@ impl<'a, M: Hosted, I: Inbox<Job<M>>> NodeHandle<'a, M, I> {
         ask(rt, self.inbox, job, &answer)
     }
 
-    /// How the node stands.
+    /// The state of the node.
     pub fn status(&self, rt: &impl Wait) -> Result<Status, ClusterFault>
         ensures asked { IsAsked IsStatusJob (I.has_put self.now.inbox.now) result }
         ensures fault { IfErr result IsUndelivered }
@@ -89,7 +89,7 @@ impl<'a, M: Hosted, I: Inbox<Job<M>>> NodeHandle<'a, M, I> {
     }
 }
 
-/// What a worker answers to a job that is put into its inbox.
+/// The worker's answer to a job that is put into its inbox.
 fn ask<J: Drop, I: Inbox<J>, T: Drop>(
     rt: &impl Wait,
     inbox: &I,

@@ -1,7 +1,7 @@
-//! What one node of a cluster runs with.
+//! What one node of a cluster needs to run.
 
-/// What one node of a cluster runs with: its store, or a `PartStore` where it may come late; where its lines
-/// go, and where what leaves it goes.
+/// What one node of a cluster needs to run: its store, or a `PartStore` if it may come late; where its lines go, and
+/// where its effects go.
 #[derive(Drop)]
 pub struct Part<S, U, O> {
     pub store: S,

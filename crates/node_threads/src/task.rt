@@ -17,7 +17,7 @@ pub trait Task: Send + 'static {
         ensures { leaves self result };
 }
 
-/// A task runs in a thread of its own, if one can be had; else it is dropped.
+/// Runs a task in a thread of its own, if one can be had; else the task is dropped.
 pub fn spawn_task<R, T, P>(rt: &R, promise: P, task: T) -> Option<PromisedHandle<T::Left, P>>
 where
     R: Threads + Wait + Sync + Send + Copy + 'static,

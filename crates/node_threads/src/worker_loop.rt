@@ -1,4 +1,4 @@
-//! What a worker has beside its node's cell and its inbox, and what it does with it, in rounds.
+//! What a worker has besides its node's cell and its inbox, and what it does with them, in rounds.
 ghost use Rattle.std.specs.Prelude.{◌≡◌, ◌&&◌, false, length, true};
 ghost use Rattle.node_threads.specs.Homes.{IsSameHome};
 ghost use Rattle.node_threads.specs.Reports.{has_grown, is_news};
@@ -39,7 +39,7 @@ pub mod round;
 mod telling;
 mod turning;
 
-/// What a worker has beside its node's cell and its inbox.
+/// What a worker has besides its node's cell and its inbox.
 #[derive(Drop)]
 pub struct WorkerLoop<M: Marking, G: Drop, O: Outlet<M::Effect>> {
     pub alloc: Global,
@@ -49,29 +49,29 @@ pub struct WorkerLoop<M: Marking, G: Drop, O: Outlet<M::Effect>> {
     pub gate: Arc<G>,
     pub outlet: O,
     pub beats: Beats,
-    /// How many turns it came to.
+    /// How many turns it has come to.
     pub turns: u64,
     /// How many notes it has taken up.
     pub done: u64,
     /// How often its node has heard of the leader of its term.
     pub contacts: u64,
     pub requests: Requests<M::Command>,
-    /// The node to which a request was posted last, and nothing since.
+    /// The node to which a request was last posted, if nothing was posted to it since.
     pub forwarded: Option<u8>,
     pub round: Round<M::Effect>,
-    /// What it told last, if that was taken.
+    /// Its last report, if that was taken.
     pub told: Option<Told>,
-    /// The last index of its node's log as the round before ended.
+    /// The last index of its node's log when the last round ended.
     pub seen: Number,
-    /// Whether it did a beat that the clock ordered, and has not told so.
+    /// Whether it did a beat for the clock, and has not reported it.
     pub has_untold_beat: bool,
-    /// What its node had where it sent last, as the leader of its term.
+    /// What its node had when it last sent as the leader of its term.
     pub beaten: Option<Beaten>,
     /// Whether nothing is left to do until a job comes.
     pub may_wait: bool,
 }
 
-/// What a leader had where it sent last: its term, the last place of its log, and what was agreed.
+/// What a leader had when it last sent: its term, the last place of its log, and what was agreed.
 #[derive(Clone, Copy)]
 pub struct Beaten {
     pub term: Number,
@@ -80,7 +80,7 @@ pub struct Beaten {
 }
 
 impl<M: Marking, G: Gate + Drop, O: Outlet<M::Effect>> WorkerLoop<M, G, O> {
-    /// Works in rounds, until it is told to end.
+    /// Works in rounds, until it is asked to end.
     pub fn work<R: Wait, S: Stable<M::Command>, U: Upstream, I: Inflow<Job<M>>>(
         &mut self,
         rt: &R,
@@ -99,7 +99,7 @@ impl<M: Marking, G: Gate + Drop, O: Outlet<M::Effect>> WorkerLoop<M, G, O> {
         }
     }
 
-    /// A round. False where it is told to end, or nobody tells it anything any more.
+    /// A round. False if it is asked to end, or its inbox has no senders left.
     fn do_round<R: Wait, S: Stable<M::Command>, U: Upstream, I: Inflow<Job<M>>>(
         &mut self,
         rt: &R,
@@ -119,7 +119,7 @@ impl<M: Marking, G: Gate + Drop, O: Outlet<M::Effect>> WorkerLoop<M, G, O> {
         !is_over
     }
 
-    /// What a round does behind its jobs. False where there is more to do, even if nothing comes.
+    /// What a round does after its jobs. False if there is more to do, even if nothing comes.
     fn go_round<R: Wait, S: Stable<M::Command>, U: Upstream>(
         &mut self,
         rt: &R,
@@ -135,13 +135,13 @@ impl<M: Marking, G: Gate + Drop, O: Outlet<M::Effect>> WorkerLoop<M, G, O> {
         let all_asked = self.ask_all(rt, cell);
         let all_applied = self.apply_all(rt, cell);
         self.beat_on_news(rt, cell);
-        // what leaves is told before the others are woken: clients wait for it
+        // the report comes before the others are woken: clients wait for it
         let all_told = self.tell(rt, cell);
         self.wake_all(rt);
         all_of(all_asked, all_applied, all_told)
     }
 
-    /// A leader whose worker is to send by itself sends, where there is news.
+    /// A leader that sends by itself sends, if there is news.
     fn beat_on_news<R: Wait, S: Stable<M::Command>, U: Upstream>(
         &mut self,
         rt: &R,
@@ -167,8 +167,8 @@ impl<M: Marking, G: Gate + Drop, O: Outlet<M::Effect>> WorkerLoop<M, G, O> {
         }
     }
 
-    /// Whether the node leads, and its log or what is agreed of it grew since it sent last in its term, or
-    /// a node that lags behind it answered; and its worker is to send by itself.
+    /// Whether the worker sends by itself, and its node leads and has news: its log or the agreed part of it grew since
+    /// it last sent in its term, or a lagging node answered.
     fn has_news<S: Stable<M::Command>, U: Upstream>(&self, cell: &NodeCell<M, S, U>) -> bool
         ensures { result ≡ is_news self.now.beats self.now.beaten self.now.round.is_behind
             cell.now.parts }
@@ -199,15 +199,14 @@ impl<M: Marking, G: Gate + Drop, O: Outlet<M::Effect>> WorkerLoop<M, G, O> {
     }
 }
 
-/// Whether all of these are so.
+/// Whether all three are true.
 fn all_of(one: bool, two: bool, three: bool) -> bool
     ensures { result ≡ (one && (two && three)) }
 {
     one && two && three
 }
 
-/// Whether a leader's log or what is agreed of it grew since it sent last in its term, or a node that lags
-/// behind it answered.
+/// Whether a leader's log or the agreed part of it grew since it last sent in its term, or a lagging node answered.
 fn has_grown(beaten: Option<Beaten>, is_behind: bool, now: Beaten) -> bool
     ensures { result ≡ has_grown beaten is_behind now.term now.last now.commit }
 {

@@ -41,7 +41,7 @@ module _ {B : Type 0} where
   pub has_length : (q : ℕ) (P L : List (Entry B)) → q ≤ length L → Has q P L → q ≤ length P
   has_length q P L in_l h = omega (arith, length_take q L in_l, begins_length (take q L) P h)
 
-  -- where the terms agree at a place, the log has all up to it
+  -- if the terms agree at a place, the log has all up to it
   pub agrees_has : (q : ℕ) (P L : List (Entry B)) → q ≤ length L → AreAlike P L → agrees_at P q (term_at L q) ≡ true → Has q P L
   agrees_has q P L in_l alike h =
       ⊎_elim

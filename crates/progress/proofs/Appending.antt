@@ -1,4 +1,4 @@
--- A leader's append at a node that follows, and what the answer makes of the leader.
+-- A leader's append at a node that follows, and what the answer does to the leader.
 use Rattle.std.proofs.Common.{◌≡◌, ℕ, zero, suc, pred, ◌+◌, ◌-◌, ◌<◌, ◌≤◌, Bool, true, false, ◌&&◌, cond, eqb, ltb, min, max, List, [], ◌∷◌, ◌++◌, length, map, get_or, take, drop, Some, refl, sym, ap, subst, ◌∙◌, arith, ◌⊎◌, ⊎_elim}
 use Rattle.std.proofs.lemmas.Bool.{cond-true, cond-false, cond_both, eq-eqb, lt-ltb, le-ltb, le-leb, cases_lt}
 use Rattle.raft_log.specs.declared.entry.Entry.{Entry}
@@ -74,7 +74,7 @@ module _ {B : Type 0} where
     pub next_long : length s.next ≡ n
     pub matched_long : length s.matched ≡ n
 
-  -- what the leader keeps of a node is so
+  -- what the leader keeps of a node is this
   pub record Linked (L : List (Entry B)) (next matched : ℕ) (P : List (Entry B)) : Type 0 where
     pub next_low : 1 ≤ next
     pub next_high : next ≤ suc (length L)
@@ -85,7 +85,7 @@ module _ {B : Type 0} where
   abbrev pub Done : List (Entry B) → ℕ → ℕ → Type 0
   Done L next matched = (length L ≤ matched) × (length L < next)
 
-  -- so many exchanges, and it knows
+  -- this many exchanges, and it knows
   abbrev pub Near : ℕ → List (Entry B) → ℕ → ℕ → List (Entry B) → Type 0
   Near k L next matched P =
       Done L next matched ⊎ (((1 ≤ k) × Has (pred next) P L × (length L ≤ pred next + k)) ⊎ (pred next + length L < k))
@@ -165,7 +165,7 @@ module _ {B : Type 0} where
             commit_has = f.commit_has;
           }
 
-    -- at the leader, behind what it sent
+    -- at the leader, after what it sent
 
     module _ (s : Node B) (l : Leading n T L b most s) (from_term : ℕ) (same : from_term ≡ T) where
       reply_heard : (ok : Bool) (place : ℕ) → place ≤ length L → on_message blank n c s (message from_term j c (AppendReply ok place))

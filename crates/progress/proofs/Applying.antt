@@ -71,7 +71,7 @@ module _ (M : Machine) where
   abbrev with_applied : Node M.Body → ℕ → Node M.Body
   with_applied s k = record s { applied = k }
 
-  -- so much is applied, and no other node changed
+  -- this much is applied, and no other node changed
   pub record Upto (a : ℕ) (w : World M) (s : Node M.Body) (m : ℕ) (v : World M) : Type 0 where
     pub here : item v a ≡ Some (with_applied s m)
     pub else : (k : ℕ) → (k ≡ a → ⊥) → item v k ≡ item w k

@@ -1,4 +1,4 @@
--- Of some nodes one has the most up-to-date log.
+-- One of several nodes has the most up-to-date log.
 use Rattle.std.proofs.Common.{◌≡◌, ℕ, ◌<◌, ◌≤◌, Bool, true, false, ◌||◌, eqb, leb, ltb, List, [], ◌∷◌, length, Some, refl, sym, subst, ◌∙◌, arith, inl, inr, ◌⊎◌, ⊎_elim}
 use Rattle.std.proofs.lemmas.Bool.{cond_both, eqb-true, eq-eqb, lt-ltb, ltb-true, le-leb, leb-true, and_parts, cases_lt, true≢false}
 use Rattle.raft_log.specs.declared.entry.Entry.{Entry}

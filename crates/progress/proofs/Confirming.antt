@@ -163,7 +163,7 @@ module _ (M : Machine) (set : List Bool) (n c T : ℕ) (L : List (Entry M.Body))
             (subst (λ z. Begins z u.log) (take-length L)
             (has_less matched (length L) u.log L st.more.0.0 st.linked.matched_in st.linked.matched_has))
 
-    -- so each stands now
+    -- each is in this state now
     pub settled_node : (w : World M) (h : Led Settled AllCommitted w) (j : ℕ) → IsIn set j → (j ≡ c → ⊥)
         → (t : Node M.Body) × (item w j ≡ Some t) × Stood Settled j (item_or h.leader.next j 0) (item_or h.leader.matched j 0) t
     settled_node w h j in_j ne =

@@ -27,7 +27,7 @@ term_within (x ∷ w) (suc zero) s at = let e : x.term ≡ s.term = ap (λ z. te
 term_within (x ∷ w) (suc (suc k)) s at = let r = term_within w (suc k) s at in omega arith
 
 module _ (M : Machine) where
-  -- what it takes that a node may be elected
+  -- what a node needs to be elected
   pub record MayLead (set : List Bool) (n c : ℕ) (w : World M) (s : Node M.Body) : Type 0 where
     pub size : length w ≡ n
     pub two : 2 ≤ n

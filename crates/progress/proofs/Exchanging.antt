@@ -11,7 +11,7 @@ use Rattle.progress.specs.Plans.{place_among, count_sent, answered}
 use Rattle.progress.proofs.Places.{other_at, item_append, get_map}
 use Rattle.progress.proofs.Stepping.{Stepped, deliver_stepped, Leads, leads_first, leads_event}
 
--- what was sent to each other node stands at its place
+-- what was sent to each other node is at its place
 pub sent_to : {B : Type 0} (n c j : ℕ) (sent : List (Message B)) (f : ℕ → Message B) → 1 ≤ c → 1 ≤ j → j ≤ n → (j ≡ c → ⊥)
     → item (sent ++ map f (others n c)) (length sent + place_among c j) ≡ Some (f j)
 sent_to n c j sent f lc lj le ne =

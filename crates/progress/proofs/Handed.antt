@@ -36,7 +36,7 @@ bodies_append : (xs : List (Entry TowerBody)) (e : Entry TowerBody) → map (λ 
 bodies_append [] e = refl
 bodies_append (x ∷ xs) e = ap (λ z. x.body ∷ z) (bodies_append xs e)
 
--- the history with one entry more
+-- the history with one more entry
 pub history_more : (xs : List (Entry TowerBody)) (e : Entry TowerBody) → history (xs ++ e ∷ []) ≡ (1 + length (map (λ z. z.body) xs), e.body) ∷ history xs
 history_more xs e = ap (λ z. came 1 z []) (bodies_append xs e) ∙ came_one_more 1 (map (λ z. z.body) xs) e.body []
 

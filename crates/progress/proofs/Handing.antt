@@ -1,4 +1,4 @@
--- The bouncer's machine hands the line that waits, where the claim of the session that was opened last is applied.
+-- The bouncer's machine hands out the line that waits when the claim of the session that was opened last is applied.
 use Rattle.std.proofs.Common.{◌≡◌, ℕ, zero, suc, ◌+◌, ◌-◌, ◌<◌, ◌≤◌, Bool, true, false, eqb, leb, ltb, List, [], ◌∷◌, length, map, Option, Some, None, refl, sym, ap, ◌∙◌, arith, ⊎_elim}
 use Rattle.std.specs.Prelude.{◌^◌, slice_get, if◌then◌else◌}
 use Rattle.std.proofs.lemmas.Bool.{cond_both, cond-true, cond-false, cases_Bool, eq-eqb, le-leb, ltb-true}
@@ -27,7 +27,7 @@ use Rattle.bouncer_tower.specs.Hosting.{of_sessions, of_claims, session_source, 
 use Rattle.progress.proofs.Voting.{both_true}
 use Rattle.progress.proofs.Naming.{Each}
 
--- the session of which a body is the word that it is opened
+-- the session that a body opens
 
 abbrev named_session : Sessioned → Option SessionId
 named_session (fence.Inner c) = None
@@ -45,7 +45,7 @@ names (body.Asked o n at a) = None
 names body.Blank = None
 names (body.Mark m) = None
 
--- it is the leader's alone
+-- only the leader brings it
 
 module _ {B : Type 0} (i : ℕ) (s : Node B) where
   asked_session : (c : Sessioned) → may_ask i s (session_source c) ≡ true → named_session c ≡ None
@@ -74,7 +74,7 @@ module _ (top : SessionId) where
   abbrev ClaimsUnder : History Claimed → Type 0
   ClaimsUnder h = Each (λ (x : ℕ × Claimed). Under (named_claim x.1)) h
 
-  -- where all bodies name lower sessions, so do the commands of those that stay
+  -- if all bodies name lower sessions, so do the commands of those that stay
 
   fresh_under : (h : History TowerBody) → AllUnder h → AllUnder (fresh h)
   unfolding fresh

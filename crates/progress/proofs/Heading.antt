@@ -1,4 +1,4 @@
--- Of a leader it is known what its group agrees on by then.
+-- What is known of a leader and of what its group agrees on by then.
 use Rattle.std.proofs.Common.{◌≡◌, ℕ, zero, suc, ◌≤◌, true, All, List, length, take, Some, sym, ap, subst, arith, ⊎_elim}
 use Rattle.std.proofs.lemmas.Bool.{cases_lt}
 use Rattle.std.proofs.lemmas.List.Elements.{All-get_or}

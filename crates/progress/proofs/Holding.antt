@@ -1,4 +1,5 @@
--- A node that leads already leads the nodes of a majority, where none of them is ahead of it; one that hears of a later term follows.
+-- A node that leads already leads the nodes of a majority, if none of them is ahead of it; one that hears of a later
+-- term follows.
 use Rattle.std.proofs.Common.{◌≡◌, ℕ, zero, suc, ◌+◌, ◌<◌, ◌≤◌, Bool, true, false, ltb, List, [], ◌∷◌, length, map, Some, None, refl, sym, ap, subst, ◌∙◌, arith, inl, inr, ⊎_elim}
 use Rattle.std.proofs.lemmas.Bool.{cond-true, cond-false, cond_both, lt-ltb, ltb-true, ltb-false, cases_Bool, cases_eq}
 use Rattle.raft_log.specs.declared.role.Role.TheVariants.{Follower}
@@ -69,7 +70,7 @@ module _ (M : Machine) (set : List Bool) (n c : ℕ) (w : World M) (s : Node M.B
   abbrev pub boots_here : ℕ → ℕ
   boots_here j = boot_of (item w j)
 
-  -- of a node that is not ahead
+  -- for a node that is not ahead
   module _ (j : ℕ) (t : Node M.Body) (there : item w j ≡ Some t) (le : t.term ≤ s.term) (ne : j ≡ c → ⊥) where
     follows_by : (z : Node M.Body) → z.term ≡ s.term → is_leader z.role ≡ false → z.boot ≡ t.boot → z.applied ≡ t.applied → z.log ≡ t.log → z.commit ≡ t.commit
         → Follows s.term s.log (boots_here j) (length s.log) z
@@ -207,7 +208,7 @@ module _ (M : Machine) (set : List Bool) (n c : ℕ) (w : World M) (s : Node M.B
     here_s : item w c ≡ Some s
     here_s = at
 
-    -- each node is as it was in what counts
+    -- each node is unchanged in what counts
     pub record Alike (v : World M) (k : ℕ) (u : Node M.Body) : Type 0 where
       pub old : Node M.Body
       pub was : item w k ≡ Some old

@@ -1,4 +1,5 @@
--- In every world each session's id in a log is of the term of its entry, and the next id of a leader is above all in its log.
+-- In every world each session's id in a log is of the term of its entry, and the next id of a leader is above all in
+-- its log.
 use Rattle.std.proofs.Common.{◌≡◌, ℕ, suc, ◌≤◌, Bool, true, false, ◌&&◌, ◌||◌, not, eqb, ltb, leb, List, [], ◌∷◌, length, Option, Some, None, refl, sym, ap, subst, ◌∙◌, arith, ⊎_elim}
 use Rattle.std.specs.Prelude.{◌^◌}
 use Rattle.std.proofs.lemmas.Bool.{cond_both, cases_lt, eq-eqb, lt-ltb}
@@ -32,7 +33,7 @@ either_right true b e = refl
 either_right false b e = e
 
 module _ (M : Machine) where
-  -- a machine tells of which session a body is the word that it is opened; such a body the leader alone may bring
+  -- a machine says which session a body opens; only the leader may bring such a body
   pub record TellsOpened (names : M.Body → Option SessionId) : Type 0 where
     pub of_opened : (id : SessionId) → names (M.opened id) ≡ Some id
     pub of_shut : (id : SessionId) → names (M.shut id) ≡ None
@@ -142,7 +143,7 @@ module _ (M : Machine) where
       stopped_named : (t : Node M.Body) → Ok t → Ok (record t { sent = s.sent })
       stopped_named t k = record { log_ok = k.log_ok; sent_ok = h.sent_ok }
 
-    -- so it is with each node of a world
+    -- so it is for each node of a world
 
     pub record NamedNow (w : World M) : Type 0 where
       pub each : (i : ℕ) (s : Node M.Body) → item w i ≡ Some s → Named names s

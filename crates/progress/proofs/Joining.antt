@@ -1,4 +1,4 @@
--- What the bouncer's machine brings about where a new session is opened: it joins the channels again.
+-- What the bouncer's machine brings about when a new session is opened: it joins the channels again.
 use Rattle.std.proofs.Common.{◌≡◌, ℕ, zero, suc, true, false, List, [], ◌∷◌, ◌++◌, map, Some, refl, sym, ap, ◌∙◌, ⊎_elim}
 use Rattle.std.specs.Prelude.{filter, is_some, if◌then◌else◌}
 use Rattle.std.proofs.lemmas.Bool.{cond_both, cond-true, cond-false, cases_Bool}
@@ -64,7 +64,7 @@ by_up : (s : Settings) (e : List Command) → buffers.effects s e command.Up ≡
 unfolding buffers.effects buffers.closings buffers.shown buffers.sent
 by_up s e = refl
 
--- and so what the word of a new session does, below the sessions
+-- and so what the opening of a new session does, below the sessions
 
 module _ (s : Settings) (u : History Sessioned) (place : ℕ) (id : SessionId) where
   abbrev below : History Command
@@ -145,7 +145,7 @@ nothing_there : {A : Type 0} (j : ℕ) (x : A) → item [] j ≡ Some x → ⊥
 nothing_there zero x e = cc
 nothing_there (suc k) x e = cc
 
--- where some leave by the session, the session is live there, and all leave
+-- if some leave by the session, the session is live there, and all leave
 
 module _ (i boot : ℕ) (live : Live) (node : Node TowerBody) where
   abbrev pub leave : List TowerEffect → List TowerEffect

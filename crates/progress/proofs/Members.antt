@@ -11,7 +11,7 @@ abbrev pub Among : ℕ → List ℕ → Type 0
 Among k [] = ⊥
 Among k (j ∷ js) = (k ≡ j) ⊎ Among k js
 
--- each stands there once
+-- each is there once
 abbrev pub Apart : List ℕ → Type 0
 Apart [] = Unit {0}
 Apart (j ∷ js) = (Among j js → ⊥) × Apart js

@@ -1,4 +1,5 @@
--- Where a session's id stands in the logs: it is of the term of its entry, and of an attempt that the leader of that term made.
+-- Where a session's id is in the logs: it is of the term of its entry, and of an attempt that the leader of that term
+-- made.
 use Rattle.std.proofs.Common.{◌≡◌, ℕ, zero, suc, pred, ◌-◌, ◌<◌, ◌≤◌, Bool, true, false, ◌&&◌, ◌||◌, eqb, ltb, leb, List, [], ◌∷◌, ◌++◌, length, map, take, drop, Option, Some, None, refl, subst, arith}
 use Rattle.std.specs.Prelude.{◌^◌}
 use Rattle.std.proofs.lemmas.Bool.{cond_both, and_parts, ltb-false, ltb-true}
@@ -74,7 +75,7 @@ module _ {B : Type 0} (names : B → Option SessionId) where
   abbrev pub Termed : Entry B → Type 0
   Termed e = (id : SessionId) → names e.body ≡ Some id → id.0 ≡ e.term
 
-  -- an entry in the log of a node in this term, in this role, that made so many attempts
+  -- an entry in the log of a node in this term, in this role, that made this many attempts
   pub record Fine (t : ℕ) (role : Role) (attempts : ℕ) (e : Entry B) : Type 0 where
     pub upto : e.term ≤ t
     pub termed : Termed e
@@ -96,7 +97,7 @@ module _ {B : Type 0} (names : B → Option SessionId) where
   abbrev pub FineMessage : Message B → Type 0
   FineMessage m = FineKind m.term m.kind
 
-  -- so it is with a node
+  -- so it is for a node
   pub record Named (s : Node B) : Type 0 where
     pub log_ok : Each (Fine s.term s.role s.attempts) s.log
     pub sent_ok : Each FineMessage s.sent
@@ -108,7 +109,7 @@ module _ {B : Type 0} (names : B → Option SessionId) where
   sent_follows : (t : ℕ) (a : ℕ) (e : Entry B) → Sendable t e → (u : ℕ) → t ≤ u → Fine u Follower a e
   sent_follows t a e f u le = record { upto = omega (arith, f.upto); termed = f.termed; under = λ h. absurd (cc h); made = λ h. absurd (cc h) }
 
-  -- what names no session may be appended by a leader
+  -- a leader may append what names no session
   nameless : (t a : ℕ) (b : B) → names b ≡ None → Fine t Leader a (record { term = t; body = b })
   nameless t a b none = record { upto = omega arith; termed = λ id e. absurd (cc (none, e)); under = λ h. absurd (cc h); made = λ l s id e. absurd (cc (none, e)) }
 

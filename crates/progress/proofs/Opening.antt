@@ -65,7 +65,7 @@ module _ (M : Machine) where
     no_peers : peers set c ≡ [] → ⊥
     no_peers = ruling.no_peers M set n i w onward size two most in_i room
 
-    -- it leads in this term, with this session and so many attempts, and has at most so many entries
+    -- it leads in this term, with this session and this many attempts, and has at most this many entries
     record Rules (live : Option Live) (attempts most_entries : ℕ) (v : World M) : Type 0 where
       L : List (Entry M.Body)
       high : ℕ
@@ -77,7 +77,7 @@ module _ (M : Machine) where
       live_is : all.leader.live ≡ live
       attempts_is : all.leader.attempts ≡ attempts
 
-    -- so it does one thing more
+    -- it does one more thing
     module _ (live0 : Option Live) (attempts0 entries0 : ℕ) (front : List (Event M)) (r : Rules live0 attempts0 entries0 (run M front w)) (fits : length r.L < entry_limit)
         (e : Input M) (live : Option Live) (attempts : ℕ) (body : M.Body) (by_c : actor M (run M front w) e ≡ c) (heard : IsSentWithin M set e)
         (adds_it : (turn M (length (run M front w)) c (act_of M (run M front w) e) r.all.leader).node ≡ appending (record r.all.leader { live = live; attempts = attempts }) body) where

@@ -1,4 +1,4 @@
--- What an exchange between a leader and a node that follows comes to.
+-- The result of an exchange between a leader and a node that follows.
 use Rattle.std.proofs.Common.{◌≡◌, ℕ, zero, suc, pred, ◌+◌, ◌-◌, ◌<◌, ◌≤◌, Bool, true, false, leb, min, max, List, length, map, Some, refl, sym, ap, subst, ◌∙◌, arith, inl, inr, ⊎_elim}
 use Rattle.std.proofs.Math.Seq.{take-length}
 use Rattle.std.proofs.lemmas.Bool.{eq-eqb, le-leb, cases_lt, cases_eq, true≢false}

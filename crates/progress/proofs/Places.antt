@@ -1,4 +1,4 @@
--- Where a node stands among the others, and what stands at a place of a list that was written to.
+-- The position of a node among the others, and the item at a place of a list that was written to.
 use Rattle.std.proofs.Common.{◌≡◌, ℕ, zero, suc, ◌+◌, ◌<◌, ◌≤◌, false, eqb, ltb, List, [], ◌∷◌, ◌++◌, length, map, replicate, get_or, set, slice_get, Some, refl, sym, ap, subst, ◌∙◌, arith, ⊎_elim}
 use Rattle.std.proofs.lemmas.Bool.{cond-true, cond-false, eqb-true, eq-eqb, lt-ltb, le-ltb, cases_lt, cases_Bool}
 use Rattle.raft_log.specs.Lists.{item, item_or, with_item, range_from, without, others}
@@ -71,7 +71,7 @@ module _ {A : Type 0} where
       let e : length (x ∷ xs) + k ≡ suc (length xs + k) = omega arith in
       ap (λ z. slice_get (x ∷ (xs ++ ys)) z) e ∙ get_append xs ys k
 
-  -- what was pushed stands behind what stood
+  -- what was pushed comes after what was there
   pub item_append : (xs ys : List A) (n k : ℕ) → n ≡ length xs + suc k → item (xs ++ ys) n ≡ slice_get ys k
   item_append xs ys zero k e = absurd (omega arith)
   item_append xs ys (suc n) k e = let f : n ≡ length xs + k = omega arith in ap (λ z. slice_get (xs ++ ys) z) f ∙ get_append xs ys k

@@ -103,7 +103,7 @@ module _ (M : Machine) where
           plays = λ from_place target le. look_played (run M (play M set a w) w) a (record now.node { applied = now.node.commit }) from_place target whole.ends.here (now.commit_is ∙ sym (ap length now.log_is)) le;
         }
 
-    -- what the candidate had stands in what is played
+    -- what the candidate had is in what is played
     pub front_played : (l : List (Entry M.Body)) → Begins l (log_of (item w c)) → Begins l (log_of (item (run M (play M set a w) w) a))
     front_played l b =
         let s : Node M.Body = (ruling.found M set n i w onward size two most in_i room).0 in

@@ -1,4 +1,4 @@
--- What is so in every world that a group comes to, and the laws over all lists of events.
+-- What holds in every world that a group reaches, and the laws over all lists of events.
 use Rattle.std.proofs.Common.{◌≡◌, ℕ, zero, suc, eqb, ◌<◌, ◌≤◌, Bool, List, ◌++◌, length, take, replicate, Option, None, Some, refl, sym, ap, subst, ◌∙◌, arith, ⊎_elim}
 use Rattle.std.proofs.Math.Seq.{take-length}
 use Rattle.std.proofs.lemmas.Bool.{eq-eqb, cases_Bool}
@@ -102,7 +102,7 @@ module _ (M : Machine) where
       let i = majorities_meet size set set most most in
       is_settled M set size i.0 (after M size es) (onward size es) (long size es) two most i.1 room
 
-  -- all that any node committed at any moment stands in the candidate's log
+  -- all that any node committed at any moment is in the candidate's log
   agreed_in_candidate : (size : ℕ) (es : List (Event M)) (set : List Bool) (i : ℕ) → IsMajority size set → IsIn set i → Begins (agreed M size es) (log_of (item (after M size es) (candidate set (after M size es))))
   agreed_in_candidate size es set i most in_i =
       let w = after M size es in

@@ -1,4 +1,4 @@
--- A node that was just elected leads the nodes of the majority, and so does one that took a body more.
+-- A node that was just elected leads the nodes of the majority, and so does one that took one more body.
 use Rattle.std.proofs.Common.{◌≡◌, ℕ, suc, ◌≤◌, Bool, true, false, List, [], ◌∷◌, ◌++◌, length, replicate, take, drop, Some, refl, sym, ap, subst, ◌∙◌, arith, inl, inr, ⊎_elim, length-append, take-append-drop}
 use Rattle.std.proofs.lemmas.List.{take-append-le}
 use Rattle.std.proofs.Math.Seq.{take-length}

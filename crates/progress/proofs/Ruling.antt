@@ -46,7 +46,7 @@ module _ (M : Machine) where
     pub no_peers : peers set c ≡ [] → ⊥
     no_peers = peers_some set n c two most in_c
 
-    -- one leads, and this is so besides
+    -- one leads, and this holds besides
 
     abbrev pub Of : (T : ℕ) (L : List (Entry M.Body)) (boots : ℕ → ℕ) (high : ℕ) (ends : last_term L ≡ T) (some : 1 ≤ length L) → World M → Type 0
     Of T L boots high ends some v =
@@ -213,7 +213,7 @@ module _ (M : Machine) where
             let d = then_long M w (exchange M c j) (elect M c (peers set c)) in
             omega arith
 
-      -- as the others stand
+      -- the state of the others
       abbrev Both : List (Event M) → Type 0
       Both es = Leads M set w es Held × (length es ≤ 3 + elect_events n (greatest_term w))
 

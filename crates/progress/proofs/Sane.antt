@@ -1,4 +1,4 @@
--- What is so in every world that a group comes to.
+-- What holds in every world that a group reaches.
 use Rattle.std.proofs.Common.{◌≡◌, ℕ, suc, ◌≤◌, Bool, true, List, length, take, Some, ◌⊎◌}
 use Rattle.raft_log.specs.Lists.{item, item_or}
 use Rattle.raft_log.specs.Logs.{entry_limit, last_term, term_at}
@@ -8,7 +8,7 @@ use Rattle.agreement.specs.Laws.{IsMajority, IsAsUpToDateAs}
 use Rattle.progress.proofs.Alike.{AreAlike, Has}
 
 module _ {B : Type 0} where
-  -- of a leader, and of each node whose term is not above its own
+  -- for a leader, and for each node whose term is not above its own
   pub record Heads (n : ℕ) (w : List (Node B)) (c : ℕ) (s : Node B) : Type 0 where
     pub ends : ((1 ≤ length s.log) × (last_term s.log ≡ s.term)) ⊎ (entry_limit ≤ length s.log)
     pub next_long : length s.next ≡ n

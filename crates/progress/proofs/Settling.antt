@@ -22,7 +22,7 @@ use Rattle.progress.proofs.Appending.{Follows, Leading, Linked, append_to, takes
 use Rattle.progress.proofs.Outcomes.{Outcome, y_suc, y_in, gained, taker, gained_outcome, back, decliner, back_outcome}
 
 module _ (M : Machine) (set : List Bool) (n c T : ℕ) (L : List (Entry M.Body)) (boots : ℕ → ℕ) (most : ℕ) where
-  -- what holds besides, of each node: its number, its next place and its match, and itself
+  -- what holds besides, for each node: its number, its next place and its match, and itself
   abbrev pub OfEach : Type 1
   OfEach = ℕ → ℕ → ℕ → Node M.Body → Type 0
 
@@ -35,7 +35,7 @@ module _ (M : Machine) (set : List Bool) (n c T : ℕ) (L : List (Entry M.Body))
     pub linked : Linked L next matched t.log
     pub more : X j next matched t
 
-  -- so it stood when it had heard of the term
+  -- its state when it had heard of the term
   pub stood_raised : (X : OfEach) (j next matched : ℕ) (t : Node M.Body) → Stood X j next matched t → Stood X j next matched (raised t T)
   stood_raised X j next matched t st = subst (λ z. Stood X j next matched z) (sym (raised_same t T (omega (arith, st.follows.term_is)))) st
 
@@ -81,7 +81,7 @@ module _ (M : Machine) (set : List Bool) (n c T : ℕ) (L : List (Entry M.Body))
       abbrev pub Out : Node M.Body → Node M.Body → Type 0
       Out s' t' = Outcome set n c j T L (boots c) (boots j) most h.leader u s' t'
 
-      -- the two changed so
+      -- the two changed in this way
       pub record After (v : World M) : Type 0 where
         pub s' : Node M.Body
         pub t' : Node M.Body

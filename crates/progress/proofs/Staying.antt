@@ -194,7 +194,7 @@ module _ (M : Machine) where
         (λ k. applied_onward (item s.log (suc s.applied))) (λ k. onward_self s b)
     turn_onward w (Look j from_place target) h = absurd h
 
-  -- the node is there, and so it stands
+  -- the node is there, and in this state
   pub record Stays (a : ℕ) (s : Node M.Body) (v : World M) : Type 0 where
     pub node : Node M.Body
     pub at : item v a ≡ Some node

@@ -46,7 +46,7 @@ module _ (M : Machine) where
             (event_stepped w (Does (Deliver j k)) i t step here),
       )
 
-  -- a list from this world leads to one of which this holds, and is of nodes of a set
+  -- a list from this world leads to one for which this holds, and is of nodes of a set
   pub record Leads (set : List Bool) (w : World M) (es : List (Event M)) (Q : World M → Type 0) : Type 0 where
     pub ends : Q (run M es w)
     pub within : AreWithin M set w es
@@ -95,7 +95,7 @@ module _ (M : Machine) where
     leads_times p I step zero w h = leads_nothing w (I 0) h
     leads_times p I step (suc k) w h = leads_then w p (times M k p) (I k) (I 0) (step k w h) (λ v q. leads_times p I step k v q)
 
-  -- nodes outside of a set stay as they are by what happens in it
+  -- what happens in a set leaves the nodes outside of it unchanged
   pub others_stay : (set : List Bool) (es : List (Event M)) (w : World M) → AreWithin M set w es → (i : ℕ) → (IsIn set i → ⊥) → item (run M es w) i ≡ item w i
   others_stay set [] w h i out = refl
   others_stay set (e ∷ es) w h i out =

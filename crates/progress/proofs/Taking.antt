@@ -37,7 +37,7 @@ module _ {B : Type 0} (L : List (Entry B)) (e : Entry B) where
   long_new : length (L ++ e ∷ []) ≡ suc (length L)
   long_new = let r = length-append L (e ∷ []) in omega arith
 
-  -- a log is like one that has an entry more
+  -- a log is like one that has one more entry
   alike_new : AreAlike L (L ++ e ∷ [])
   alike_new p in_p in_l same = sym (take-append-le p L (e ∷ []) in_p)
 
@@ -90,7 +90,7 @@ module _ (M : Machine) where
     abbrev OfCaught : ℕ → ℕ → ℕ → Node M.Body → Type 0
     OfCaught j next matched t = Caught M set n c T asked_log boots most enough in_c (last_term_push L asked_entry) (some_new L asked_entry) (peers set c) j next matched t
 
-    -- the leader has it, with this session and so many attempts
+    -- the leader has it, with this session and this many attempts
     pub rebuilt : (v : World M) (live : Option Live) (attempts : ℕ) → length v ≡ n → item v c ≡ Some (appending (record h.leader { live = live; attempts = attempts }) body)
         → ((j : ℕ) (in_j : IsIn set j) (ne : j ≡ c → ⊥) → (x : List (Message M.Body)) × (item v j ≡ Some (record (at_node j in_j ne).0 { sent = x })))
         → WithIt v

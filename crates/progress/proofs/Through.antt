@@ -1,4 +1,4 @@
--- In a world that a group comes to, a majority of its nodes has a leader, commits all that it has, and answers.
+-- In a world that a group reaches, a majority of its nodes has a leader, commits all that it has, and answers.
 use Rattle.std.proofs.Common.{◌≡◌, ℕ, suc, ◌<◌, ◌≤◌, Bool, true, ◌&&◌, eqb, List, length, None, Some, refl, sym, ap, subst, ◌∙◌, arith, ⊎_elim}
 use Rattle.std.proofs.lemmas.Bool.{cases_eq}
 use Rattle.machine_laws.specs.declared.class.Source.{Source}
@@ -89,7 +89,7 @@ module _ (M : Machine) where
         }
 
     module _ (a : ℕ) (body : M.Body) (in_a : IsIn set a) where
-      -- who may ask turns on the run alone
+      -- whether a request may be asked depends on the run alone
       same_asks : (t u : Node M.Body) (source : Source) → u.boot ≡ t.boot → may_ask a u source ≡ true → may_ask a t source ≡ true
       same_asks t u (Client origin) e h = ap (λ z. eqb origin.0 a && eqb origin.1 z) (sym e) ∙ h
       same_asks t u (Run node boot) e h = ap (λ z. eqb node a && eqb boot z) (sym e) ∙ h

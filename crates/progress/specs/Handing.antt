@@ -41,7 +41,7 @@ module _ (M : Machine) where
       (log_of (item (with_session M set (after M size es)) (candidate set (after M size es)))))
       ≡ Some (new_live M set (after M size es)).id
 
-  -- whatever happened, where a line of this number waits once a majority has a leader with a new
+  -- whatever happened, if a line of this number waits once a majority has a leader with a new
   -- session, it is handed upstream by that; `line_of` is the line of a number, by what was applied
   abbrev pub WaitingIsHanded :
       (History M.Body → ℕ → Option Parts) → ℕ → List (Event M) → Type 0

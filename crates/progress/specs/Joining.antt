@@ -26,9 +26,9 @@ abbrev pub channels_held : Settings → History TowerBody → List (List ℕ)
 channels_held s h = channels s (commands (plain h))
 
 module _ (M : Machine) where
-  -- By these events the leader's new session is opened. The last of them applies its word there,
+  -- By these events the leader's new session is opened. The last of them applies its opening there,
   -- and what leaves by that is the line that joins each channel that was held before it, in order,
-  -- for that session, and nothing else. The same channels are held behind it. `held` gives the
+  -- for that session, and nothing else. The same channels are held after it. `held` gives the
   -- channels that are held by what was applied.
   pub record IsJoined
       (held : History M.Body → List (List ℕ)) (set : List Bool) (w : World M) (es : List (Event M))

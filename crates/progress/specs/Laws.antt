@@ -58,7 +58,7 @@ module _ (M : Machine) where
         (j : ℕ) (s : Node M.Body) →
         IsIn set j → item w j ≡ Some s → suc (length s.log) < entry_limit
 
-  -- These are at most so many events, all at nodes of the set, of messages from nodes of the set;
+  -- These are at most this many events, all at nodes of the set, of messages from nodes of the set;
   -- no other node changes by them.
   pub record IsBy (set : List Bool) (most : ℕ) (w : World M) (es : List (Event M)) : Type 0 where
     pub within : AreWithin set w es
@@ -92,9 +92,9 @@ module _ (M : Machine) where
         × (t.term ≡ leader.term) × (t.log ≡ leader.log) × (t.commit ≡ length leader.log)
         × (t.boot ≡ boot_of (item w j))
 
-  -- The last of these events applies this body at this node, in this run of it, right behind these
-  -- entries, and what the body brings about there leaves: all of it that goes to a client of
-  -- the node in that run, or upstream by this session, if any.
+  -- The last of these events applies this body at this node, in this run of it, right after these
+  -- entries, and what the body brings about there leaves: all of it that goes to a client of the
+  -- node in that run, or upstream by this session, if any.
   pub record IsAnswered
       (a boot : ℕ) (live : Option Live) (log : List (Entry M.Body)) (body : M.Body) (w : World M)
       (es : List (Event M))
@@ -121,7 +121,7 @@ module _ (M : Machine) where
   abbrev pub asking : List Bool → World M → World M
   asking set w = run M (lead M set w) w
 
-  -- By these events of the set a body gets through, in the run in which its node was, right behind
+  -- By these events of the set a body gets through, in the run in which its node was, right after
   -- all that this had when it was asked for the body.
   pub record IsThrough (set : List Bool) (a : ℕ) (body : M.Body) (w : World M) (es : List (Event M))
       : Type 0 where
@@ -132,12 +132,12 @@ module _ (M : Machine) where
     pub answered :
         IsAnswered a (boot_of (item w a)) None (log_of (item (asking set w) a)) body w es
 
-  -- the world after these events, of so many nodes that began over new stores
+  -- the world after these events, of this many nodes that began over new stores
   abbrev pub after : ℕ → List (Event M) → World M
   after size es = run M es (start size)
 
   -- each node of a majority that does not lead, and whose log is as up to date as that of each of
-  -- it, can be elected by it
+  -- its nodes, can be elected by it
   abbrev pub CanBeElected : ℕ → List (Event M) → Type 0
   CanBeElected size es =
       (set : List Bool) (c : ℕ) (s : Node M.Body) →
@@ -164,7 +164,7 @@ module _ (M : Machine) where
   pub record MayAsk (a : ℕ) (body : M.Body) (w : World M) : Type 0 where
     pub takes : (s : Node M.Body) → item w a ≡ Some s → may_ask a s (M.source body) ≡ true
 
-  -- so it does with what a client of it asks for in that run
+  -- it takes what a client of it asks for in that run
   abbrev pub ClientsMayAsk : Type 0
   ClientsMayAsk =
       (a client : ℕ) (body : M.Body) (w : World M) →

@@ -27,8 +27,8 @@ module _ (M : Machine) where
         out_of M (run M es w) (Does (Look a from_place target))
         ≡ Looked (length node.log) (M.playback (history node.log) target)
 
-  -- whatever happened, so it is at any node of any majority; and all that any node committed at
-  -- any moment stands in what is played
+  -- whatever happened, this holds at any node of any majority; and all that any node committed at
+  -- any moment is in what is played
   abbrev pub LooksArePlayed : ℕ → List (Event M) → Type 0
   LooksArePlayed size es =
       (set : List Bool) (a : ℕ) →

@@ -1,4 +1,4 @@
--- Further events of a group, given by how its nodes stand.
+-- Further events of a group, given by the states of its nodes.
 use Rattle.std.specs.Prelude.{ℕ, zero, suc, pred, ◌+◌, ◌-◌, ◌*◌, ◌==◌, Bool, true, false, List, [], ◌∷◌, ◌++◌, length, max, replicate, Option, None, Some, is_some, nat_lt, if◌then◌else◌}
 use Rattle.raft_log.specs.declared.entry.Entry.{Entry}
 use Rattle.raft_log.specs.Lists.{item, without}
@@ -7,7 +7,7 @@ use Rattle.raft_log.specs.Node.{Node, is_leader}
 use Rattle.raft_node.specs.Machine.{Machine}
 use Rattle.world_run.specs.World.{World, Input, Event, Does, Timeout, Beat, Deliver, Ask, Opened, Closed, Claim, Apply, run}
 
--- where a node stands among the nodes other than this one, from 1 on
+-- the position of a node among the nodes other than this one, from 1 on
 abbrev pub place_among : ℕ → ℕ → ℕ
 place_among c j = if nat_lt c j then pred j else j
 
@@ -21,7 +21,7 @@ members_from a (false ∷ set) = members_from (suc a) set
 abbrev pub members : List Bool → List ℕ
 members set = members_from 1 set
 
--- and those but this one
+-- and those without this one
 abbrev pub peers : List Bool → ℕ → List ℕ
 peers set c = without c (members set)
 
@@ -61,7 +61,7 @@ module _ {B : Type 0} where
   does_lead None = false
   does_lead (Some s) = is_leader s.role
 
-  -- the first of these nodes whose term is above this one
+  -- the first of these nodes whose term is above this one's
   abbrev pub ahead : List (Node B) → ℕ → List ℕ → Option ℕ
   ahead w t [] = None
   ahead w t (j ∷ js) = if nat_lt t (term_of (item w j)) then Some j else ahead w t js
@@ -75,7 +75,7 @@ module _ {B : Type 0} where
   abbrev pub is_as_good : List (Entry B) → List (Entry B) → Bool
   is_as_good log other = up_to_date (last_term log) (length log) (last_term other) (length other)
 
-  -- of this node and these the one whose log is the most up to date
+  -- the node with the most up-to-date log, among this node and these
   abbrev pub best_of : List (Node B) → ℕ → List ℕ → ℕ
   best_of w i [] = i
   best_of w i (j ∷ js) =
@@ -90,20 +90,19 @@ module _ {B : Type 0} where
   abbrev pub candidate : List Bool → List (Node B) → ℕ
   candidate set w = best_among w (members set)
 
--- by at most so many events a node of a group of this size is elected, where this is the greatest
--- term
+-- at most this many events elect a node of a group of this size, if this is the greatest term
 abbrev pub elect_events : ℕ → ℕ → ℕ
 elect_events size term = suc term + 2 * size
 
--- all of a log with so many entries is committed
+-- all of a log with this many entries is committed
 abbrev pub settle_events : ℕ → ℕ → ℕ
 settle_events size entries = size * (3 * suc (entries + entries)) + (3 + 3 * size)
 
--- both, where the log has an entry more, of the new term
+-- both, when the log has one more entry, of the new term
 abbrev pub lead_events : ℕ → ℕ → ℕ → ℕ
 lead_events size term entries = 3 + elect_events size term + settle_events size (suc entries)
 
--- a body more is taken, committed and applied
+-- one more body is taken, committed and applied
 abbrev pub bring_events : ℕ → ℕ → ℕ
 bring_events size entries = 2 + settle_events size (suc entries) + suc entries
 
@@ -150,7 +149,7 @@ module _ (M : Machine) where
   for_each f [] = nothing
   for_each f (j ∷ js) = and_then (f j) (for_each f js)
 
-  -- what a node sent to another one, behind so many messages, is delivered, and what that answers
+  -- what a node sent to another one, after this many messages, is delivered, and what that answers
   abbrev pub answered : ℕ → ℕ → ℕ → Plan
   answered c base j w =
       Does (Deliver c (base + place_among c j))
@@ -186,8 +185,8 @@ module _ (M : Machine) where
       then elect_behind c js (ahead w (term_of (item w c)) js) w
       else elect c js w
 
-  -- how often a leader and a node exchange until that has the leader's log: an entry back each
-  -- time, then on
+  -- how often a leader and a node exchange messages until the node has the leader's log: one entry
+  -- back each time, then forward
   abbrev pub rounds : ℕ → World M → ℕ
   rounds c w = suc (length (log_of (item w c)) + length (log_of (item w c)))
 
@@ -236,7 +235,7 @@ module _ (M : Machine) where
   abbrev pub play : List Bool → ℕ → Plan
   play set a = and_then (lead set) (apply_all a)
 
-  -- a leader does this, all that it has then is committed by the set, and it applies it
+  -- a leader does this, all that it then has is committed by the set, and it applies it
   abbrev pub lead_on : List Bool → ℕ → Input M → Plan
   lead_on set c x =
       and_then (λ w. Does x ∷ []) (and_then (settle c (peers set c)) (apply_all c))

@@ -24,9 +24,9 @@ module _ (M : Machine) where
   waits_at None = None
   waits_at (Some s) = M.next_claim (applied_history M s)
 
-  -- By at most so many events of the set a node leads it, in the run in which it was, with this
-  -- session. The last event applies this body there, right behind these entries: each of the set
-  -- has committed it, and what it brings about for that session leaves.
+  -- By at most this many events of the set a node leads it, in the run in which it was, with this
+  -- session. The last event applies this body there, right after these entries: each of the set has
+  -- committed it, and what it brings about for that session leaves.
   pub record IsDone
       (set : List Bool) (c most : ℕ) (live : Live) (log : List (Entry M.Body)) (body : M.Body)
       (w : World M) (es : List (Event M))
@@ -53,20 +53,20 @@ module _ (M : Machine) where
   abbrev pub with_session : List Bool → World M → World M
   with_session set w = run M (open_session M set w) w
 
-  -- the session that it opened: of its term, and of an attempt more than it had made in its run
+  -- the session that it opened: of its term, and with one more attempt than it had made in its run
   abbrev pub new_live : List Bool → World M → Live
   new_live set w =
       session_of (term_of (item (ready set w) (candidate set w)))
       (suc (attempts_of (item w (candidate set w))))
 
-  -- by these events the leader's new session is opened, right behind all that it had
+  -- by these events the leader's new session is opened, right after all that it had
   abbrev pub IsOpened : List Bool → World M → List (Event M) → Type 0
   IsOpened set w es =
       let c : ℕ = candidate set w in
       IsDone set c (open_events (length w) (greatest_term w) (length (log_of (item w c))))
       (new_live set w) (log_of (item (ready set w) c)) (M.opened (new_live set w).id) w es
 
-  -- by these it claims the line of this number, right behind the word of its session
+  -- by these it claims the line of this number, right after the opening of its session
   abbrev pub IsClaimed : List Bool → ℕ → World M → List (Event M) → Type 0
   IsClaimed set number w es =
       let c : ℕ = candidate set w in
@@ -86,7 +86,7 @@ module _ (M : Machine) where
       HasAttempts (candidate set (after M size es)) (after M size es) →
       IsOpened set (after M size es) (open_session M set (after M size es))
 
-  -- and a line that waits then is claimed by it, where its log takes three entries more
+  -- and a line that waits then is claimed by it, if its log takes three more entries
   abbrev pub WaitingIsClaimed : ℕ → List (Event M) → Type 0
   WaitingIsClaimed size es =
       (set : List Bool) (number : ℕ) →

@@ -1,8 +1,7 @@
-//! That no world to which a group may come is a dead end.
-//! Stands on world_run.
-//! Whatever happened, any majority of the nodes can have a leader, commit all that this has, bring what is asked for at any of
-//! them through, play a look there, open a session, join the channels again by it and claim a line that waits, by further events
-//! that a function of the world gives.
+//! That no world that a group may reach is a dead end. It builds on world_run. Whatever happened, any majority of the
+//! nodes can have a leader, commit all that this has, bring through what is asked for at any of them, play a look
+//! there, open a session, join the channels again by it and claim a line that waits, by further events that a function
+//! of the world gives.
 #![tactic(auto)]
 
 mod laws;

@@ -38,7 +38,7 @@ module _ (M : Machine) {Setup Hosted Store : Type 0} (k : Keeper Store M.Body) (
     turn_of : Node M.Body → ℕ → List M.Effect → Turn M
     turn_of node place effects = record { node = node; out = given place effects }
 
-    -- nothing comes out where no place was applied
+    -- nothing comes out if no place was applied
     nothing : (place : ℕ) (effects : List M.Effect) → place ≡ 0 → given {M = M} place effects ≡ Quiet
     nothing zero effects e = refl
     nothing (suc place) effects e = absurd (omega arith)

@@ -39,7 +39,7 @@ leads (position.Follower leader) h = absurd cc
 leads position.Candidate h = absurd cc
 leads (position.Leader live) h = (refl, refl)
 
--- no items are left where there are none
+-- no items are left if there are none
 pub none_left : {A : Type 0} (xs : List A) (n : ℕ) → n ≡ length xs → n ≡ 0 → xs ≡ []
 none_left [] n long none = refl
 none_left (x ∷ xs) n long none = absurd (cc (sym long ∙ none))
@@ -56,7 +56,7 @@ saves (Heard at line) h = refl
 saves Claim h = refl
 saves Apply h = absurd (cc h)
 
--- a node is sound once its plan stands, and what it applied stays
+-- a node is sound after its plan took effect, and what it applied stays
 pub record StaysOn {B : Type 0} (size : ℕ) (s t : Node B) : Type 0 where
   pub sound : IsSound size t
   pub front : take s.applied t.log ≡ take s.applied s.log
@@ -73,7 +73,7 @@ module _ {B L : Type 0} (b : Bodies B L) (next : Option ℕ) (size i : ℕ) (inp
   pub stays_on : StaysOn size s (planned s (input_plan b next size i input s))
   stays_on = stays_by (input_plan b next size i input s) refl
 
--- What holds while inputs are planned: what is left comes to what all come to, behind the answers so far.
+-- What holds while inputs are planned: what is left gives the result of all, after the answers so far.
 pub record IsUnderWay {A B : Type 0} (plan : A → Node B → Plan B) (fits : A → Type 0) (size : ℕ) (state : NodeState B) (inputs left : List A) (t : Together B) : Type 0 where
   pub node : (sent : List (Message B)) → planned_all plan left (led state t sent) ≡ planned_all plan inputs (seen state sent)
   pub answers_are : (sent : List (Message B)) → t.answers.items ++ answers plan left (led state t sent) ≡ answers plan inputs (seen state sent)
@@ -123,7 +123,7 @@ module _ {B L : Type 0} (b : Bodies B L) (next : Option ℕ) (i : ℕ) (state : 
         appends = appends;
       }
 
-  -- so it begins
+  -- the beginning
   pub sets_out : (left : List (Input (Message B) B L)) (t : Together B) → left ≡ inputs → is_leader (role_of state.standing.position) ≡ true → IsSound (size_of state) (seen state [])
       → CountsLines (live_of state.standing.position) (length state.log) → AllByRecursion OnlyAppends inputs → length inputs ≤ batch_limit → length state.log ≤ entry_limit
       → t.live ≡ live_of state.standing.position → t.attempts ≡ state.standing.attempts → t.entries.items ≡ [] → t.answers.items ≡ [] → UnderWay left t
@@ -145,7 +145,7 @@ module _ {B L : Type 0} (b : Bodies B L) (next : Option ℕ) (i : ℕ) (state : 
       subst (λ (x : Standing). plan input (node_of x (state.log ++ t.entries.items) sent) ≡ addition_plan added (node_of x (state.log ++ t.entries.items) sent)) e
       (h (state.log ++ t.entries.items) sent)
 
-  -- so it goes on, by one input
+  -- one input more
   pub goes_on : (left rest : List (Input (Message B) B L)) (input : Input (Message B) B L) (p : Node B → Plan B) (t u : Together B) → UnderWay left t → left ≡ input ∷ rest
       → ((sent : List (Message B)) → plan input (led state t sent) ≡ p (led state t sent)) → IsTakenIn p state t u → UnderWay rest u
   goes_on left rest input p t u w e same taken = by (subst (λ (l : List (Input (Message B) B L)). UnderWay l t) e w)
@@ -170,7 +170,7 @@ module _ {B L : Type 0} (b : Bodies B L) (next : Option ℕ) (i : ℕ) (state : 
             appends = w.appends.1;
           }
 
-  -- the step that it comes to
+  -- the step that results
   abbrev pub step_of : Together B → Step B → Type 0
   step_of t step = (step.standing ≡ leading state.standing t.live t.attempts) × (step.keep ≡ length state.log) × (step.entries ≡ t.entries) × (step.messages.items ≡ [])
 
@@ -185,7 +185,7 @@ module _ {B L : Type 0} (b : Bodies B L) (next : Option ℕ) (i : ℕ) (state : 
       ap (λ (x : Standing). node_of x (log_after state.log step) sent) e.0
       ∙ ap (λ (l : List (Entry B)). node_of (leading state.standing t.live t.attempts) l sent) (log_is t step e)
 
-  -- so it ends
+  -- the end
   pub are_planned : (left : List (Input (Message B) B L)) (t : Together B) (step : Step B) → UnderWay left t → left ≡ [] → step_of t step → ArePlanned plan state inputs step t.answers.items
   are_planned left t step w e s = by (subst (λ (l : List (Input (Message B) B L)). UnderWay l t) e w)
     where

@@ -61,7 +61,7 @@ module _ {Setup Hosted Store B : Type 0} (stands : Hosted → Setup → History 
             holds = w.holds;
           }
 
-      -- the machine stands after one more body
+      -- the machine has taken one more body
       pub applied_whole : (machine : Hosted) (place : ℕ) → place ≡ suc n.state.standing.applied
           → stands machine n.setup ((place, e.body) ∷ applied_bodies n.state)
           → IsWhole stands k (next machine (record n.state { standing = record n.state.standing { applied = place } }))

@@ -40,7 +40,7 @@ module _ {B : Type 0} where
   abbrev pub Counted : Node B → Type 0
   Counted s = CountsLines s.live (length s.log)
 
-  -- who does not lead has no session
+  -- a node that does not lead has no session
   not_live : (s : Node B) → Lives s → is_leader s.role ≡ false → (o : Option Live) → s.live ≡ o → s.live ≡ None
   not_live s v h None e = e
   not_live s v h (Some live) e =
@@ -126,12 +126,12 @@ module _ {B : Type 0} where
       (λ h. counts_on s (raised s m.term) _ (raised_counts n i s m.term) (handled_counts blank n i (raised s m.term) m m.kind (raised_lives n i s m.term v)))
       (λ h. record { of = λ c. c })
 
-  -- where a plan goes on, the lines are among the entries
+  -- if a plan goes on, the lines are among the entries
   abbrev pub PlanCounts : Node B → Plan B → Type 0
   PlanCounts s (Goes t) = Counts s t
   PlanCounts s (Declines refusal) = Unit {0}
 
-  -- a body of a leader's own is one more entry
+  -- a leader's own body is one more entry
   own_counts : (s : Node B) (live : Option Live) (attempts : ℕ) (body : B) → is_leader s.role ≡ true → (Counted s → CountsLines live (suc (length s.log)))
       → PlanCounts s (own_plan live attempts body s)
   own_counts s live attempts body lead h =

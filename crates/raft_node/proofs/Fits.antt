@@ -1,4 +1,5 @@
--- A node's lists are of its group's size, a leader's next places and matches are within its log, and who leads is known to a follower alone.
+-- A node's lists are of its group's size, a leader's next places and matches are within its log, and only a follower
+-- knows who leads.
 use Rattle.std.proofs.Common.{◌≡◌, ℕ, zero, suc, ◌-◌, ◌≤◌, max, Bool, true, false, ◌&&◌, ◌||◌, ltb, leb, eqb, List, [], ◌∷◌, ◌++◌, ⊎_elim, Option, Some, None, length, replicate, drop, refl, ◌∙◌, arith, length-append}
 use Rattle.std.specs.Prelude.{◌^◌}
 use Rattle.std.proofs.Math.ListN.{length-replicate}

@@ -1,4 +1,4 @@
--- What stands at a place of a list that was written to, or that has one item again and again. Places count from 1.
+-- The item at a place of a list that was written to, or that repeats one item. Places count from 1.
 use Rattle.std.proofs.Common.{◌≡◌, ℕ, zero, suc, ◌≤◌, List, [], ◌∷◌, length, get_or, set, replicate, slice_get, Some, refl, ap, arith, ◌⊎◌, inl, inr, ⊎_elim, length-set}
 use Rattle.raft_log.specs.Lists.{item, item_or, with_item}
 

@@ -36,7 +36,7 @@ module _ {B : Type 0} where
   none_added log [] keep e z = sym (append-nil (take keep log) ∙ take_all keep log (omega arith))
   none_added log (x ∷ entries) keep e z = absurd (omega arith)
 
-  -- a step that is still leaves what is saved as it is
+  -- a step that changes nothing to save leaves what is saved unchanged
   pub saved_still : (state : NodeState B) (step : Step B) → IsSavable state.standing state.log step
       → IsStill state step.standing step.keep (length step.entries.items)
       → saved_by (seen state []) ≡ saved_by (seen (after state step) [])
@@ -54,7 +54,7 @@ module _ {Store B : Type 0} (k : Keeper Store B) where
             (record { kept = s.kept; room = s.room; boot = omega (arith, s.boot); term = s.term; vote = v }),
       )
 
-  -- A step of a state stands in the store, or did before.
+  -- The store holds a step of a state, or did before.
   pub record IsSaved (old : Store) (state after : NodeState B) (new : Store) : Type 0 where
     pub honest : (k.condition new).honest ≡ (k.condition old).honest
     pub passed : IsHonest (k.condition old) → (k.condition new).failures ≡ (k.condition old).failures
@@ -94,7 +94,7 @@ module _ {Store B : Type 0} (k : Keeper Store B) where
   abbrev made : {A : Type 0} → A → Result A Cause
   made a = Ok a
 
-  -- the step stands
+  -- the step took effect
   pub kept : {A : Type 0} (a : A) (old new : Store) (state now : NodeState B) (step : Step B) → IsSaved old state (after state step) new
       → now ≡ after state step → IsKept k old state (after state step) new now (made a)
   kept a old new state now step h e =

@@ -1,4 +1,4 @@
--- A node that is up, whose step stands, or that goes down; what is kept by that.
+-- A node that is up, whose step takes effect, or that goes down; what is kept by that.
 use Rattle.std.proofs.Common.{◌≡◌, ℕ, ◌≤◌, [], None, Some, Result, Ok, Err, length, refl, sym, ap, subst, ◌∙◌, arith}
 use Rattle.machine_laws.specs.Runs.{History}
 use Rattle.raft_log.specs.declared.node_state.NodeState.{NodeState}

@@ -1,4 +1,4 @@
--- What a node plans is what its turn comes to.
+-- A node's plan gives the result of its turn.
 use Rattle.std.proofs.Common.{◌≡◌, ℕ, suc, Bool, true, false, ◌&&◌, not, if◌then◌else◌, Option, Some, None, refl, ap, ◌∙◌}
 use Rattle.std.specs.Prelude.{◌^◌, nat_le}
 use Rattle.raft_log.specs.declared.message.Message.{Message}
@@ -18,7 +18,7 @@ use Rattle.raft_node.specs.Machine.{Machine}
 use Rattle.raft_node.specs.Steps.{Turn, quiet, refused, adds, asked, opened, closed, heard, claimed, if_leading, applied_history, turn}
 
 module _ (M : Machine) (s : Node M.Body) where
-  -- the turn that a plan comes to
+  -- the turn of a plan
   abbrev pub turn_by : Plan M.Body → Turn M
   turn_by (Goes t) = quiet M t
   turn_by (Declines refusal) = refused M s refusal
@@ -62,7 +62,7 @@ module _ (M : Machine) (s : Node M.Body) where
   claimed_by (Some live) None = refl
   claimed_by (Some live) (Some number) = adds_by s.live s.attempts (M.claim live.id number)
 
-  -- of each input but that an entry is applied
+  -- for each input except one that applies an entry
   pub turn_planned : (size i : ℕ) (input : Input (Message M.Body) M.Body M.Line) → is_apply input ≡ false
       → turn M size i (act_of M input) s ≡ turn_by (input_plan (bodies_of M) (M.next_claim (applied_history M s)) size i input s)
   turn_planned size i Timeout h = if_by (not (is_leader s.role) && nat_le (2 ^ 60) s.term) (Declines TermsSpent) (Goes (timed_out size i s))

@@ -1,4 +1,4 @@
--- A node stays whole where a step that it planned stands.
+-- A node stays whole when a step that it planned takes effect.
 use Rattle.std.proofs.Common.{◌≡◌, ℕ, false, List, [], ◌++◌, Option, Some, length, take, sym, ap, subst, ◌∙◌}
 use Rattle.machine_laws.specs.declared.class.Class.TheVariants.{Nowhere}
 use Rattle.raft_log.specs.declared.message.Message.{Message}
@@ -36,7 +36,7 @@ module _ (M : Machine) (size i : ℕ) (s : Node M.Body) where
       absurd (cc outs)
 
 module _ {B L : Type 0} (b : Bodies B L) (next : Option ℕ) where
-  -- a machine with these bodies that brings nothing about
+  -- a machine with these bodies that does nothing
   abbrev plain : Machine
   plain =
       record {
@@ -67,7 +67,7 @@ module _ {B L : Type 0} (b : Bodies B L) (next : Option ℕ) where
         applied = not_applied plain size i s t (turn plain size i (act_of plain input) s) turns (turn_step plain size i s (record { of = sound.2 }) (act_of plain input));
       }
 
-  -- a step that is planned may stand
+  -- a step that is planned may take effect
   pub may_stand : (i : ℕ) (input : Input (Message B) B L) → is_apply input ≡ false → (state : NodeState B) (step : Step B) → IsSound (size_of state) (seen state [])
       → CountsLines (live_of state.standing.position) (length state.log)
       → IsStepOf (input_plan b next (size_of state) i input) state.standing state.log step → length step.standing.peers.voters ≡ step.standing.peers.size

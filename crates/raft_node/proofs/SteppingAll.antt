@@ -1,4 +1,4 @@
--- What a node does by its plans of several inputs is what their turns come to.
+-- A node's plans of several inputs give the result of their turns.
 use Rattle.std.proofs.Common.{◌≡◌, ℕ, ◌↔◌, List, [], ◌∷◌, inl, Option, None, Some, Result, Ok, Err, map, take, refl, sym, ap, subst, ◌∙◌, ◌++◌, ◌+◌, length, length-append, length-take, arith, append-nil, zero, suc}
 use Rattle.std.specs.Prelude.{IfSome}
 use Rattle.std.specs.List.{AllByRecursion}
@@ -55,7 +55,7 @@ module _ (M : Machine) (size i : ℕ) (next : Option ℕ) where
       turn_planned M s size i input (saves input h)
       ∙ ap (λ (o : Option ℕ). turn_by M s (input_plan (bodies_of M) o size i input s)) (sym e)
 
-  -- What turns come to is what plans come to.
+  -- The result of turns is the result of plans.
   pub record ArePlans (inputs : List (Input (Message M.Body) M.Body M.Line)) (s : Node M.Body) : Type 0 where
     pub node : turned_all M size i (map (act_of M) inputs) s ≡ planned_all plan inputs s
     pub out : outs M size i (map (act_of M) inputs) s ≡ map (out_of M) (answers plan inputs s)
@@ -82,7 +82,7 @@ module _ (M : Machine) (size i : ℕ) (next : Option ℕ) where
       }
 
 module _ (M : Machine) {Setup Hosted Store : Type 0} (inputs : List (Input (Message M.Body) M.Body M.Line)) (n : Parts Setup Hosted Store M.Body) where
-  -- so a node plans what its turns come to
+  -- a node plans the result of its turns
   pub come_to : AllByRecursion OnlyAppends inputs → IsSound (size_of n.state) (seen n.state []) → (next : Option ℕ) → next ≡ M.next_claim (applied_bodies n.state)
       → (step : Step M.Body) (given : List (Result (Unit {0}) Refusal))
       → ArePlanned (input_plan (bodies_of M) next (size_of n.state) n.id) n.state inputs step given → ComeTo M inputs n step given
@@ -129,7 +129,7 @@ module _ (M : Machine) {Setup Hosted Store : Type 0} (inputs : List (Input (Mess
 
 module _ (M : Machine) {Setup Hosted Store : Type 0} (inputs : List (Input (Message M.Body) M.Body M.Line)) (stands : Hosted → Setup → History M.Body → Type 0) (k : Keeper Store M.Body)
     (sure : (s : Store) (v : Saved M.Body) → Serves (k.condition s) → k.may_stand s v ↔ (v ≡ k.saved s)) where
-  -- there was no memory to plan them
+  -- memory ran out as they were planned
   pub no_memory : (n old : Parts Setup Hosted Store M.Body) → n ≡ old → old.down ≡ None → IsWhole stands k n → AreDowned M k inputs old Memory (record n { down = Some Memory })
   no_memory n old same up w = subst (λ (x : Parts Setup Hosted Store M.Body). AreDowned M k inputs x Memory (record n { down = Some Memory })) same falls
     where
@@ -147,7 +147,7 @@ module _ (M : Machine) {Setup Hosted Store : Type 0} (inputs : List (Input (Mess
           }
 
 module _ {B : Type 0} (state : NodeState B) (step : Step B) (a : IsAppend state step) where
-  -- where the log stays, nothing is to be saved
+  -- if the log stays, nothing is to be saved
   pub is_still : (now : NodeState B) → now ≡ after state step → now.log ≡ state.log → IsStill state step.standing step.keep (length step.entries.items)
   is_still now e same =
       let logs : take step.keep state.log ++ step.entries.items ≡ state.log = sym (ap (λ (s : NodeState B). s.log) e) ∙ same in

@@ -1,4 +1,4 @@
--- What holds of each step of a node holds of each turn of it.
+-- What holds for each step of a node holds for each turn of it.
 use Rattle.std.proofs.Common.{ℕ, suc, ◌&&◌, not, ltb, leb, Option, Some, None}
 use Rattle.std.specs.Prelude.{◌^◌}
 use Rattle.std.proofs.lemmas.Bool.{cond_both}
@@ -16,7 +16,7 @@ use Rattle.node_steps.specs.Asking.{is_full, may_ask, finds_leader}
 use Rattle.raft_node.specs.Steps.{Turn, Act, Expires, Beats, Hears, Asks, Opens, Closes, HearsLine, Claims, Applies, Looks, Idles, quiet, refused, applied_history, asks, asked, adds, opened, closed, heard, claimed, if_leading, applied, turn}
 
 module _ (M : Machine) (n i : ℕ) (s : Node M.Body) (P : Node M.Body → Type 0) where
-  -- it holds of the node, and after each step
+  -- it holds for the node, and after each step
   pub record EachStep : Type 0 where
     pub stays : P s
     pub times : P (timed_out n i s)

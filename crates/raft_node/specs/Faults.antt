@@ -1,4 +1,4 @@
--- The numbers of a node's faults, and what a store's fault is to its node.
+-- The numbers of a node's faults, and the fault of a node whose store fails.
 use Rattle.std.specs.Prelude.{ℕ}
 use Rattle.stable_store.specs.declared.store_fault.StoreFault.{StoreFault}
 use Rattle.stable_store.specs.declared.store_fault.StoreFault.TheVariants.{Device, NotAStore, Version, Damaged, Memory as NoMemory}
@@ -8,7 +8,7 @@ use Rattle.raft_node.specs.declared.node_fault.Cause.TheVariants.{Store, Memory}
 use Rattle.raft_node.specs.declared.node_fault.NodeFault.{NodeFault}
 use Rattle.raft_node.specs.declared.node_fault.NodeFault.TheVariants.{Down, Refused}
 
--- a store's want of memory is the node's, each other fault of it is the store's
+-- if a store runs out of memory so does its node, each other fault of it is the store's
 abbrev pub cause_of : StoreFault → Cause
 cause_of Device = Store
 cause_of NotAStore = Store

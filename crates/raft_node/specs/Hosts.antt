@@ -1,4 +1,4 @@
--- A machine that a node hosts, by what its trait tells of it.
+-- A machine that a node hosts, by what its trait says of it.
 use Rattle.std.specs.Prelude.{ℕ, List, Option}
 use Rattle.irc_line.specs.Lines.{Parts}
 use Rattle.wire_bytes.specs.declared.session_id.SessionId.{SessionId}

@@ -1,4 +1,4 @@
--- What happens to a node, as its code is told of it: what it plans to do, and the act that this is.
+-- What happens to a node, as its code gets it: what it plans to do, and the act that this is.
 use Rattle.std.specs.Prelude.{ℕ, Bool, true, false, Option}
 use Rattle.wire_bytes.specs.declared.session_id.SessionId.{SessionId}
 use Rattle.machine_laws.specs.declared.class.Source.{Source}
@@ -40,7 +40,7 @@ module _ {B L : Type 0} where
   bodies blank opened shut heard claim source =
       record { blank = blank; opened = opened; shut = shut; heard = heard; claim = claim; source = source }
 
-  -- what the node of this number in a group of this size plans, where this is the line that is to be claimed next
+  -- what the node of this number in a group of this size plans, if this is the line to be claimed next
   abbrev pub input_plan : Bodies B L → Option ℕ → ℕ → ℕ → Input (Message B) B L → Node B → Plan B
   input_plan b next size i Timeout s = election_plan size i s
   input_plan b next size i Beat s = Goes (beat size i s)

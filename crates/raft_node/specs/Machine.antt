@@ -16,14 +16,15 @@ pub record Machine : Type 1 where
   pub Played : Type 0
   -- the body that a new leader appends first
   pub blank : Body
-  -- what a leader appends where its session is opened or shut, a line of it is heard (its place there, its moment), or a line is claimed
+  -- what a leader appends when its session is opened or shut, a line of it is heard (its place there, its moment), or a
+  -- line is claimed
   pub opened : SessionId → Body
   pub shut : SessionId → Body
   pub heard : SessionId → ℕ → ℕ → Line → Body
   pub claim : SessionId → ℕ → Body
   -- who may bring a body
   pub source : Body → Source
-  -- what a body brings about at a place, after the bodies before it
+  -- what a body does at a place, after the bodies before it
   pub effects : History Body → ℕ → Body → List Effect
   -- the number of the line that is to be claimed next
   pub next_claim : History Body → Option ℕ

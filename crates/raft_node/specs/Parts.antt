@@ -1,4 +1,4 @@
--- What a node keeps, and what holds of it.
+-- What a node keeps, and what holds for it.
 use Rattle.std.specs.Prelude.{◌≡◌, ◌≤◌, ◌⊎◌, ℕ, [], length, take, Option, None}
 use Rattle.machine_laws.specs.Runs.{History}
 use Rattle.raft_log.specs.declared.node_state.NodeState.{NodeState}
@@ -22,7 +22,7 @@ pub record Parts (Setup Hosted Store B : Type 0) : Type 0 where
   pub state : NodeState B
   pub down : Option Cause
 
--- a store, by what its trait tells of it: what stands, what may stand were it read anew, and its condition
+-- a store, by what its trait says of it: what it holds, what it may hold if it were read anew, and its condition
 pub record Keeper (Store B : Type 0) : Type 1 where
   pub saved : Store → Saved B
   pub may_stand : Store → Saved B → Type 0
@@ -50,19 +50,19 @@ module _ {Store B : Type 0} where
   abbrev pub Holds : Keeper Store B → Store → NodeState B → Type 0
   Holds k store state = IsHonest (k.condition store) → Serves (k.condition store) × (k.saved store ≡ saved_by (seen state []))
 
-  -- what may stand in an honest store is saved of this state, or of this node
+  -- what an honest store may hold is saved of this state, or of this node
   abbrev pub MayHold : Keeper Store B → Store → NodeState B → Node B → Type 0
   MayHold k store state after =
       IsHonest (k.condition store) → (v : Saved B) → k.may_stand store v
       → (v ≡ saved_by (seen state [])) ⊎ (v ≡ saved_by after)
 
--- an honest store is the cause only where one more of its device's calls failed, and want of memory only where none did
+-- an honest store is the cause only if one more of its device's calls failed, and memory only if none did
 abbrev pub IsBlamed : Cause → Condition → Condition → Type 0
 IsBlamed Memory old new = IsHonest old → new.failures ≡ old.failures
 IsBlamed StoreFailed old new = IsHonest old → HasRisen old.failures new.failures
 
--- Its number is one of the group, its state is sound, and the lines of a live session are entries. While it is up its machine
--- stands after what it applied, and an honest store holds what is to be saved.
+-- Its number is one of the group, its state is sound, and the lines of a live session are entries. While it is up its
+-- machine has taken what it applied, and an honest store holds what is to be saved.
 pub record IsWhole {Setup Hosted Store B : Type 0} (stands : Hosted → Setup → History B → Type 0) (k : Keeper Store B) (n : Parts Setup Hosted Store B) : Type 0 where
   pub in_group : (1 ≤ n.id) × (n.id ≤ size_of n.state)
   pub sound : IsSound (size_of n.state) (seen n.state [])

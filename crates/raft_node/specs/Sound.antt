@@ -14,7 +14,7 @@ module _ {B : Type 0} where
   abbrev pub LeadsItsSession : Node B → Type 0
   LeadsItsSession s = (live : Live) → s.live ≡ Some live → (s.role ≡ Leader) × (live.id.0 ≡ s.term) × (live.id.1 ≤ s.attempts)
 
-  -- who leads is known to a follower alone
+  -- only a follower knows who leads
   abbrev pub FollowsItsLeader : Node B → Type 0
   FollowsItsLeader s = (leader : ℕ) → s.leader ≡ Some leader → s.role ≡ Follower
 
@@ -37,7 +37,7 @@ module _ {B : Type 0} where
   abbrev pub sent_first : List (Message B) → Node B → Node B
   sent_first messages s = record s { sent = messages ++ s.sent }
 
--- a node begins so
+-- a node begins like this
 abbrev pub BeginsSound : Type 0 → Type 0
 BeginsSound B = (size : ℕ) → IsSound {B = B} size (newborn size)
 
@@ -59,7 +59,7 @@ module _ (M : Machine) where
       (size i : ℕ) (o : Own M) (s : Node M.Body) →
       (more : List (Message M.Body)) × ((own M size i o s).node.sent ≡ s.sent ++ more) × AreFrom i more
 
-  -- nothing reads what was sent: what happens comes to the same whatever was sent before
+  -- nothing reads what was sent: the result of an event is the same whatever was sent before
   abbrev pub SentIsNotRead : Type 0
   SentIsNotRead =
       (size i : ℕ) (o : Own M) (s : Node M.Body) (messages : List (Message M.Body)) →

@@ -1,4 +1,4 @@
--- What comes of a start of a node from its store.
+-- The result of a start of a node from its store.
 use Rattle.std.specs.Prelude.{◌≡◌, ◌≤◌, ◌⊎◌, ℕ, suc, IsTrue, List, [], None, Some, Result, Ok, Err, OnOk}
 use Rattle.raft_log.specs.declared.message.Message.{Message}
 use Rattle.raft_log.specs.declared.node_state.NodeState.{NodeState}
@@ -30,7 +30,8 @@ module _ {B : Type 0} where
   Begins size stood state = (v : Saved B) × stood v × BeganWith size v state × (size_of state ≡ size)
 
 module _ {Store B : Type 0} (k : Keeper Store B) where
-  -- why a start from an honest store fails: all boots were made, its device failed in this call or had failed before, or there was no memory and no call of its device failed
+  -- why a start from an honest store fails: all boots were made, its device failed in this call or had failed before,
+  -- or memory ran out and no call of its device failed
   abbrev pub MayFail : Store → Condition → NodeFault → Type 0
   MayFail old now (Down Memory) = IsHonest (k.condition old) → now.failures ≡ (k.condition old).failures
   MayFail old now (Down StoreFailed) =
@@ -42,17 +43,17 @@ module _ {Store B : Type 0} (k : Keeper Store B) where
   MayFail old now (Refused (Behind applied)) = ⊥
   MayFail old now (Refused BadOrigin) = ⊥
 
-  -- what may stand in an honest store may have stood in it, or is saved of a run that began with such
+  -- what an honest store may hold it may have held before, or it is saved of a run that began with such
   abbrev pub MayBegin : ℕ → Store → Store → Type 0
   MayBegin size old new =
       IsHonest (k.condition old) → (v : Saved B) → k.may_stand new v
       → k.may_stand old v ⊎ ((u : Saved B) × k.may_stand old u × (v ≡ saved_by (begun size u [])))
 
-  -- of an honest store, what may stand in it
+  -- what an honest store may hold
   abbrev pub MayHaveStood : Store → Saved B → Type 0
   MayHaveStood store v = IsHonest (k.condition store) → k.may_stand store v
 
-  -- by what the beginning of a run answers: its state, which the store holds, or why there is none
+  -- by the answer to beginning a run: its state, which the store holds, or why there is none
   abbrev pub HasBegun : ℕ → Store → Result (NodeState B) NodeFault → Store → Type 0
   HasBegun size old (Ok state) new = Begins size (MayHaveStood old) state × Holds k new state
   HasBegun size old (Err fault) new = MayFail old (k.condition new) fault
@@ -75,14 +76,15 @@ module _ {Setup Hosted Store B : Type 0} (k : Keeper Store B) where
     pub begins : Begins size (MayHaveStood k store) n.state
     pub holds : Holds k n.store n.state
 
-  -- what a start answers; where it went down, for a cause that what became of the store tells, and a refusal says that all boots were made
+  -- what a start answers; if it went down, the cause follows from what became of the store, and a refusal says that all
+  -- boots were made
   abbrev pub IsStarted : ℕ → ℕ → Setup → Store → Result (Parts Setup Hosted Store B) NodeFault → Type 0
   IsStarted id size setup store (Ok n) = IsFirst id size setup store n
   IsStarted id size setup store (Err (Down cause)) =
       (new : Store) × ((k.condition new).honest ≡ (k.condition store).honest) × MayFail k store (k.condition new) (Down cause)
   IsStarted id size setup store (Err (Refused refusal)) = MayFail k store (k.condition store) (Refused refusal)
 
-  -- by what a restart answers; where it fails the node shows the state from before, and is down
+  -- by what a restart answers; if it fails the node shows the state from before, and is down
   abbrev pub HasRestarted : Parts Setup Hosted Store B → Result (Unit {0}) NodeFault → Parts Setup Hosted Store B → Type 0
   HasRestarted old (Ok done) new =
       (new.down ≡ None) × Begins (size_of old.state) (MayHaveStood k old.store) new.state × Holds k new.store new.state

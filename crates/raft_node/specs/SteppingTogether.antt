@@ -1,4 +1,4 @@
--- What comes of a step by several inputs that only append, saved at once.
+-- The result of a step by several inputs that only append, saved at once.
 use Rattle.std.specs.Prelude.{◌≡◌, ◌⊎◌, List, [], map, None, Some, Result, Ok, Err, ◌∷◌, IfSome}
 use Rattle.raft_log.specs.declared.message.Message.{Message}
 use Rattle.raft_log.specs.declared.step.Step.{Step}
@@ -28,12 +28,12 @@ module _ (M : Machine) {Setup Hosted Store : Type 0} where
   abbrev pub becomes : List (Input (Message M.Body) M.Body M.Line) → Parts Setup Hosted Store M.Body → List (Message M.Body) → Node M.Body
   becomes inputs n sent = turned_all M (size_of n.state) n.id (map (act_of M) inputs) (seen n.state sent)
 
-  -- The inputs come to this step, one after the other, and these are their answers.
+  -- The inputs lead to this step, one after the other, and these are their answers.
   pub record ComeTo (inputs : List (Input (Message M.Body) M.Body M.Line)) (n : Parts Setup Hosted Store M.Body) (step : Step M.Body) (answers : List (Result (Unit {0}) Refusal)) : Type 0 where
     pub node : (sent : List (Message M.Body)) → becomes inputs n sent ≡ seen (after n.state step) sent
     pub outs_are : (sent : List (Message M.Body)) → outs M (size_of n.state) n.id (map (act_of M) inputs) (seen n.state sent) ≡ map (out_of M) answers
 
-  -- All inputs were done: the node is what they come to, nothing was sent, and each answer says what came out of its own.
+  -- All inputs were done: the node is their result, nothing was sent, and each answer says what came out of its own.
   pub record AreDone (k : Keeper Store M.Body) (inputs : List (Input (Message M.Body) M.Body M.Line)) (old : Parts Setup Hosted Store M.Body) (answers : List (Result (Unit {0}) Refusal)) (new : Parts Setup Hosted Store M.Body) : Type 0 where
     pub was_up : old.down ≡ None
     pub is_up : new.down ≡ None
@@ -41,7 +41,7 @@ module _ (M : Machine) {Setup Hosted Store : Type 0} where
     pub outs_are : (sent : List (Message M.Body)) → outs M (size_of old.state) old.id (map (act_of M) inputs) (seen old.state sent) ≡ map (out_of M) answers
     pub holds : Holds k new.store new.state
 
-  -- The node went down: it shows the state from before, and what may stand in an honest store is that or what all inputs come to.
+  -- The node went down: it shows the state from before, and an honest store may hold that or the result of all inputs.
   pub record AreDowned (k : Keeper Store M.Body) (inputs : List (Input (Message M.Body) M.Body M.Line)) (old : Parts Setup Hosted Store M.Body) (cause : Cause) (new : Parts Setup Hosted Store M.Body) : Type 0 where
     pub was_up : old.down ≡ None
     pub is_down : new.down ≡ Some cause
@@ -49,15 +49,16 @@ module _ (M : Machine) {Setup Hosted Store : Type 0} where
     pub blamed : IsBlamed cause (k.condition old.store) (k.condition new.store)
     pub may_hold : MayHold k new.store old.state (becomes inputs old [])
 
-  -- Why inputs were not done: the node went down, or it was down, answers its cause and is as it was. Where their save was tried these are
-  -- the answers that they have once it stands, else the store is as it was.
+  -- Why inputs were not done: the node went down, or it was down, answers its cause and is unchanged. If their save was
+  -- tried these are the answers that they have once it succeeds, else the store is unchanged.
   pub record HaveFailed (k : Keeper Store M.Body) (inputs : List (Input (Message M.Body) M.Body M.Line)) (old : Parts Setup Hosted Store M.Body) (unsaved : Unsaved) (new : Parts Setup Hosted Store M.Body) : Type 0 where
     pub falls : AreDowned k inputs old unsaved.cause new ⊎ ((old.down ≡ Some unsaved.cause) × (new ≡ old))
     pub tried : IfSome unsaved.answers (λ answers. (sent : List (Message M.Body)) → outs M (size_of old.state) old.id (map (act_of M) inputs) (seen old.state sent) ≡ map (out_of M) answers.items)
     pub untried : unsaved.answers ≡ None → new.store ≡ old.store
 
 module _ (M : Machine) (Setup Hosted : Type 0) {Store : Type 0} (k : Keeper Store M.Body) where
-  -- One input alone comes to what a step by it comes to. Of one that is refused this is said where there is memory for its answer.
+  -- One input alone has the result of a step by it. For one that is refused this holds if there is memory for its
+  -- answer.
   abbrev pub OneIsAStep : Type 0
   OneIsAStep =
       (input : Input (Message M.Body) M.Body M.Line) (old new : Parts Setup Hosted Store M.Body) →

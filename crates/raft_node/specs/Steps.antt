@@ -87,7 +87,7 @@ module _ (M : Machine) where
   abbrev pub refused : Node M.Body → Refusal → Turn M
   refused s refusal = record { node = s; out = Refused refusal }
 
-  -- the bodies that the node's machine stands after
+  -- the bodies that the node's machine has taken
   abbrev pub applied_history : Node M.Body → History M.Body
   applied_history s = history (take s.applied s.log)
 
@@ -104,14 +104,14 @@ module _ (M : Machine) where
   abbrev pub asks : ℕ → Node M.Body → M.Body → Turn M
   asks i s body = if is_leader s.role && is_full s then refused s LogFull else quiet (ask i s body)
 
-  -- who asks for a body is looked at first, then whether a leader is known, then the room for it
+  -- the source of a body is checked first, then whether a leader is known, then the room for it
   abbrev pub asked : ℕ → Node M.Body → M.Body → Turn M
   asked i s body =
       if may_ask i s (M.source body)
       then (if finds_leader s s.leader then asks i s body else refused s NoLeader)
       else refused s BadOrigin
 
-  -- a leader appends a body of its own, and its session becomes this, with so many attempts made
+  -- a leader appends a body of its own, and its session becomes this, with this many attempts made
   abbrev pub adds : Node M.Body → Option Live → ℕ → M.Body → Turn M
   adds s live attempts body =
       if is_full s then refused s LogFull else quiet (on_forward (record s { live = live; attempts = attempts }) body)
@@ -141,7 +141,7 @@ module _ (M : Machine) where
   claimed s (Some live) None = quiet s
   claimed s (Some live) (Some number) = adds s s.live s.attempts (M.claim live.id number)
 
-  -- so a leader does; others do nothing
+  -- a leader does so; others do nothing
   abbrev pub if_leading : Node M.Body → Turn M → Turn M
   if_leading s turn = if is_leader s.role then turn else quiet s
 
@@ -154,18 +154,18 @@ module _ (M : Machine) where
         out = Left (suc s.applied) (leaving i s (M.effects (applied_history s) (suc s.applied) e.body));
       }
 
-  -- the next entry is applied, where it is committed
+  -- the next entry is applied, if it is committed
   abbrev pub apply_next : ℕ → Node M.Body → Turn M
   apply_next i s = if nat_lt s.applied s.commit then applied i s (item s.log (suc s.applied)) else quiet s
 
-  -- a target is played by what was applied, where that reaches to this place
+  -- a target is played by what was applied, if that reaches this place
   abbrev pub looked : Node M.Body → ℕ → M.Target → Turn M
   looked s from_place target =
       if nat_lt s.applied from_place
       then refused s (Behind s.applied)
       else record { node = s; out = Looked s.applied (M.playback (applied_history s) target) }
 
-  -- what an act comes to, at the node of this number in a group of this size
+  -- the result of an act, at the node of this number in a group of this size
   abbrev pub turn : ℕ → ℕ → Act M → Node M.Body → Turn M
   turn size i Expires s = expired size i s
   turn size i Beats s = quiet (beat size i s)
@@ -179,7 +179,7 @@ module _ (M : Machine) where
   turn size i (Looks from_place target) s = looked s from_place target
   turn size i Idles s = quiet s
 
-  -- what happens to a node comes to this
+  -- the result of what happens to a node
   abbrev pub own : ℕ → ℕ → Own M → Node M.Body → Turn M
   own size i (Acts act) s = turn size i act s
   own size i Restarts s = quiet (restarted size s)

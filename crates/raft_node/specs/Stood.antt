@@ -1,4 +1,4 @@
--- What comes of a step that is saved and stands, and of an entry that is applied, at a node that is up.
+-- The result of a step that is saved and takes effect, and of an entry that is applied, at a node that is up.
 use Rattle.std.specs.Prelude.{◌≡◌, ◌<◌, ◌≤◌, ◌⊎◌, ℕ, suc, List, [], None, Some, Result, Ok, Err, filter}
 use Rattle.irc_line.specs.Lines.{Parts as LineParts}
 use Rattle.machine_laws.specs.declared.class.Class.{Class}
@@ -25,7 +25,7 @@ module _ {B : Type 0} where
   one_applied state = record state { standing = record state.standing { applied = suc state.standing.applied } }
 
 module _ {Setup Hosted Store B : Type 0} where
-  -- The node went down: it shows the state from before, and what may stand in an honest store is that or what the step comes to.
+  -- The node went down: it shows the state from before, and an honest store may hold that or the result of the step.
   pub record Falls (k : Keeper Store B) (step : Step B) (old : Parts Setup Hosted Store B) (cause : Cause) (new : Parts Setup Hosted Store B) : Type 0 where
     pub is_down : new.down ≡ Some cause
     pub state : new.state ≡ old.state
@@ -33,7 +33,7 @@ module _ {Setup Hosted Store B : Type 0} where
     pub may_hold : MayHold k new.store old.state (seen (after old.state step) [])
 
 module _ {Setup Hosted Store B E : Type 0} where
-  -- The step stands: its messages leave, and nothing else comes out.
+  -- The step takes effect: its messages leave, and nothing else comes out.
   pub record Stands (k : Keeper Store B) (step : Step B) (old : Parts Setup Hosted Store B) (output : Output B E) (new : Parts Setup Hosted Store B) : Type 0 where
     pub is_up : new.down ≡ None
     pub state : new.state ≡ after old.state step
@@ -48,7 +48,7 @@ module _ {Setup Hosted Store B E : Type 0} where
   HasStood k step old (Err (Down cause)) new = Falls k step old cause new
   HasStood k step old (Err (Refused refusal)) new = ⊥
 
-  -- what comes of a step that may stand
+  -- the result of a step that may take effect
   abbrev pub IsStood : Keeper Store B → Step B → Parts Setup Hosted Store B → Result (Output B E) NodeFault → Parts Setup Hosted Store B → Type 0
   IsStood k step old result new = HasStood k step old result new × IsSameNode k old new
 
@@ -73,7 +73,7 @@ module _ {Setup Hosted Store B E : Type 0} where
     pub is_up : new.down ≡ None
     pub holds : Holds k new.store new.state
 
-  -- by what is answered; only want of memory takes the node down
+  -- by what is answered; the node goes down only if memory runs out
   abbrev pub HasApplied : (Setup → History B → ℕ → B → List E) → (E → Class LineParts) → Keeper Store B
       → Parts Setup Hosted Store B → Result (Output B E) NodeFault → Parts Setup Hosted Store B → Type 0
   HasApplied effects class k old (Ok output) new =
@@ -82,7 +82,7 @@ module _ {Setup Hosted Store B E : Type 0} where
       (cause ≡ Memory) × (new.down ≡ Some Memory) × (new.state ≡ old.state) × (new.store ≡ old.store)
   HasApplied effects class k old (Err (Refused refusal)) new = ⊥
 
-  -- what comes of it that the next entry is applied
+  -- the result of applying the next entry
   abbrev pub IsApplied : (Setup → History B → ℕ → B → List E) → (E → Class LineParts) → Keeper Store B
       → Parts Setup Hosted Store B → Result (Output B E) NodeFault → Parts Setup Hosted Store B → Type 0
   IsApplied effects class k old result new = HasApplied effects class k old result new × IsSameNode k old new

@@ -1,4 +1,5 @@
--- What a leader makes of inputs that only append, one after the other: each is planned as if those before it stood.
+-- What a leader makes of inputs that only append, one after the other: each is planned as if the earlier ones had taken
+-- effect.
 use Rattle.std.specs.Prelude.{◌≡◌, ℕ, Bool, true, false, List, [], ◌∷◌, ◌++◌, ◌+◌, ◌≤◌, suc, length, Option, None, Some, Result, Ok, Err}
 use Rattle.raft_log.specs.declared.entry.Entry.{Entry}
 use Rattle.raft_log.specs.declared.message.Message.{Message}
@@ -37,7 +38,7 @@ module _ {D B L : Type 0} where
   abbrev pub OnlyAppends : Input D B L → Type 0
   OnlyAppends input = only_appends input ≡ true
 
--- the standing of a leader with this session and so many attempts made
+-- the standing of a leader with this session and this many attempts made
 abbrev pub leading : Standing → Option Live → ℕ → Standing
 leading standing live attempts = record standing { position = Leader live; attempts = attempts }
 
@@ -53,7 +54,7 @@ module _ {B : Type 0} where
   IsPlannedBy plan standing result =
       (log : List (Entry B)) (sent : List (Message B)) → plan (node_of standing log sent) ≡ addition_plan result (node_of standing log sent)
 
-  -- the node once its plan stands
+  -- the node after its plan took effect
   abbrev pub planned : Node B → Plan B → Node B
   planned s (Goes t) = t
   planned s (Declines refusal) = s
@@ -64,7 +65,7 @@ module _ {B : Type 0} where
   answer (Declines refusal) = Err refusal
 
   module _ {A : Type 0} (plan : A → Node B → Plan B) where
-    -- the node once all plans stand, each made after those before it
+    -- the node after all plans took effect, one after the other
     abbrev pub planned_all : List A → Node B → Node B
     planned_all [] s = s
     planned_all (input ∷ inputs) s = planned_all inputs (planned s (plan input s))
@@ -75,18 +76,18 @@ module _ {B : Type 0} where
     answers (input ∷ inputs) s = answer (plan input s) ∷ answers inputs (planned s (plan input s))
 
 module _ {B : Type 0} where
-  -- the leader of this state once what was planned so far stands
+  -- the leader of this state after what was planned so far
   abbrev pub led : NodeState B → Together B → List (Message B) → Node B
   led state t sent = node_of (leading state.standing t.live t.attempts) (state.log ++ t.entries.items) sent
 
-  -- A plan was taken in behind those before it, with its answer.
+  -- A plan was added after those before it, with its answer.
   pub record IsTakenIn (plan : Node B → Plan B) (state : NodeState B) (old new : Together B) : Type 0 where
     pub node : (sent : List (Message B)) → led state new sent ≡ planned (led state old sent) (plan (led state old sent))
     pub answers_are : (sent : List (Message B)) → new.answers.items ≡ old.answers.items ++ answer (plan (led state old sent)) ∷ []
     pub few : length new.entries.items ≤ suc (length old.entries.items)
     pub room : length state.log + length new.entries.items ≤ entry_limit
 
-  -- A plan was taken in behind those before it, and this is its answer, which does not stand among the others yet.
+  -- A plan was added after those before it, and this is its answer, which is not among the others yet.
   pub record IsAdded (plan : Node B → Plan B) (state : NodeState B) (old new : Together B) (given : Result (Unit {0}) Refusal) : Type 0 where
     pub node : (sent : List (Message B)) → led state new sent ≡ planned (led state old sent) (plan (led state old sent))
     pub answer_is : (sent : List (Message B)) → given ≡ answer (plan (led state old sent))
@@ -94,13 +95,14 @@ module _ {B : Type 0} where
     pub few : length new.entries.items ≤ suc (length old.entries.items)
     pub room : length state.log + length new.entries.items ≤ entry_limit
 
-  -- All inputs are planned: the step is what they come to, one after the other, it sends nothing, and these are their answers.
+  -- All inputs are planned: the step is their result, one after the other, it sends nothing, and these are their
+  -- answers.
   pub record ArePlanned {A : Type 0} (plan : A → Node B → Plan B) (state : NodeState B) (inputs : List A) (step : Step B) (given : List (Result (Unit {0}) Refusal)) : Type 0 where
     pub node : (sent : List (Message B)) → planned_all plan inputs (seen state sent) ≡ seen (after state step) sent
     pub answers_are : (sent : List (Message B)) → answers plan inputs (seen state sent) ≡ given
     pub sends : step.messages.items ≡ []
 
-  -- Entries follow all that stood, if any; term and vote are the same.
+  -- Entries follow all that were there, if any; term and vote are the same.
   pub record IsAppend (state : NodeState B) (step : Step B) : Type 0 where
     pub keeps_all : step.keep ≡ length state.log
     pub term : step.standing.term ≡ state.standing.term

@@ -14,7 +14,7 @@ use node_steps::{Refusal, may_ask};
 use raft_log::{Live, Message, NodeId, Standing};
 use wire_bytes::{LAST_NUMBER, Moment, Number, SessionId};
 
-/// A body that a leader is about to append, with its session and the attempts made once it stands.
+/// A body that a leader is about to append, with its session and the attempts made after that.
 #[derive(Drop)]
 pub struct Addition<B> {
     pub live: Option<Live>,
@@ -22,8 +22,8 @@ pub struct Addition<B> {
     pub body: B,
 }
 
-/// What a leader appends by an input that only appends, if anything, or why it is refused. That its
-/// log takes no more entries is for the caller to see.
+/// What a leader appends for an input that only appends, if anything, or why it is refused. The
+/// caller checks whether the log takes more entries.
 pub fn to_append<M: Hosted>(
     id: NodeId,
     standing: &Standing,
@@ -47,7 +47,7 @@ pub fn to_append<M: Hosted>(
     }
 }
 
-/// What is asked, where it may be asked here.
+/// The body that is asked for, if it may be asked for here.
 fn asked<M: Hosted>(
     id: NodeId,
     standing: &Standing,
@@ -66,7 +66,7 @@ fn asked<M: Hosted>(
     }))
 }
 
-/// The next session, where none is live.
+/// The next session, if none is live.
 fn opened<M: Hosted>(standing: &Standing) -> Result<Option<Addition<M::Command>>, Refusal>
     requires leads { is_leader (role_of standing.now.position) ≡ true }
     ensures { IsPlannedBy (open_plan M.opened) standing.now result }

@@ -12,8 +12,8 @@ use stable_store::{Saved, Stable};
 use std::alloc::Global;
 use wire_bytes::{LAST_NUMBER, Number, Wire};
 
-/// Begins a run over what the store holds, which holds the new run's number then. `TermsSpent`
-/// where no number follows that of the last run.
+/// Begins a run over what the store holds; the store then holds the new run's number. `TermsSpent`
+/// if no number follows that of the last run.
 pub fn begin<B: Wire, S: Stable<B>>(
     alloc: Global,
     store: &mut S,
@@ -36,7 +36,7 @@ pub fn begin<B: Wire, S: Stable<B>>(
     }
 }
 
-/// Begins a run once the store serves again, by what its device holds.
+/// Begins a run once the store serves again, over what its device holds.
 pub fn begin_again<B: Wire, S: Stable<B>>(
     alloc: Global,
     store: &mut S,

@@ -1,4 +1,4 @@
-//! What happens to a node, and what comes of it.
+//! What happens to a node, and the result.
 ghost use Rattle.std.specs.Prelude.{◌≡◌};
 ghost use Rattle.raft_node.specs.Inputs.{is_apply};
 
@@ -6,7 +6,7 @@ use raft_log::Message;
 use wire_bytes::{Moment, Number, Wire};
 
 /// What happens to a node, over bodies and lines of the machine that it hosts. A delivery holds the
-/// message, or what the message came in.
+/// message, or the envelope that it came in.
 #[derive(Drop)]
 pub enum Input<D, B, L> {
     /// It waited too long for a leader.
@@ -15,7 +15,7 @@ pub enum Input<D, B, L> {
     Beat,
     /// A message comes.
     Deliver(D),
-    /// A client asks, or word comes that a node is gone.
+    /// A client asks, or it is known that a node is gone.
     Ask(B),
     /// The upstream session is registered.
     Opened,
@@ -30,7 +30,7 @@ pub enum Input<D, B, L> {
 }
 
 impl<D, B, L> Input<D, B, L> {
-    /// Whether an entry is applied, which nothing is saved for.
+    /// Whether an entry is applied, which needs no save.
     pub fn is_apply(&self) -> bool
         ensures { result ≡ is_apply self.now }
     {
@@ -41,12 +41,12 @@ impl<D, B, L> Input<D, B, L> {
     }
 }
 
-/// What comes of a step.
+/// The result of a step.
 #[derive(Drop)]
 pub struct Output<B: Wire, E> {
     /// What was sent, in order.
     pub messages: Vec<Message<B>>,
-    /// The place that was applied, 0 where none was.
+    /// The place that was applied, 0 if there is none.
     pub place: Number,
     /// The effects that leave, in order.
     pub effects: Vec<E>,

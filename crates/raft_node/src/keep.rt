@@ -1,4 +1,4 @@
-//! How a change is saved, and how a step stands once it is.
+//! How a step is saved, and takes effect.
 ghost use Rattle.std.specs.Prelude.{◌≡◌, ◌≤◌, ◌↔◌, length, IfOk, IsTrue};
 ghost use Rattle.raft_log.specs.Batches.{batch_limit};
 ghost use Rattle.raft_log.specs.Lists.{IsNode};
@@ -13,9 +13,9 @@ use raft_log::{Entry, Message, NodeId, NodeState, Standing, Step};
 use stable_store::{Change, Stable};
 use wire_bytes::{Number, Wire};
 
-/// Saves a step of a state, and then makes it stand. Gives what is sent.
+/// Saves a step of a state, and then lets it take effect. Returns what is sent.
 ///
-/// Nothing is saved where neither term, vote nor log change.
+/// Nothing is saved if neither term, vote nor log change.
 pub fn keep<B: Wire, S: Stable<B>>(
     store: &mut S,
     state: &mut NodeState<B>,
@@ -41,7 +41,7 @@ pub fn keep<B: Wire, S: Stable<B>>(
     } else {
         save(store, &standing, keep, entries)?
     };
-    // after a save that stands, want of room is mended by a start from the store
+    // the save succeeded, so a start from the store mends the lack of memory
     if state.log.put_behind(keep, entries).is_err() {
         return Err(Cause::Memory);
     }
@@ -59,8 +59,8 @@ fn is_still<B: Wire>(state: &NodeState<B>, standing: &Standing, keep: Number, ad
         && added == 0
 }
 
-/// Saves the boot, term and vote of a standing, with these entries behind so many, and gives the
-/// entries back.
+/// Saves the boot, term and vote of a standing, with these entries after the first `keep`, and
+/// returns the entries.
 pub fn save<B: Wire, S: Stable<B>>(
     store: &mut S,
     standing: &Standing,

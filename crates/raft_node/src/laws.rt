@@ -8,8 +8,8 @@ use crate::described::Described;
 use machine_laws::{Hosted, Machine};
 use stable_store::Stable;
 
-/// A node begins sound, and whatever happens to it keeps it so: what it applied is committed, and that stands in its log;
-/// a live session is of the term in which it leads; it knows a leader only while it follows; its lists by node are of the
+/// A node begins sound, and whatever happens to it keeps it so: what it applied is committed, and is in its log; a live
+/// session is of the term in which it leads; it knows a leader only while it follows; its lists by node are of the
 /// group's size, and while it leads its next places and matches are within its log.
 pub fn a_node_stays_sound<M: Hosted>()
     ensures begins { BeginsSound M.Command }
@@ -28,8 +28,8 @@ pub fn what_was_sent_stays_and_is_not_read<M: Hosted>()
     ensures is_not_read { (s : M.Setup) → SentIsNotRead (⟦<M as Described>⟧.machine s) }
 {}
 
-/// What several inputs of a leader come to by one save, one input alone comes to by a step; want of memory for its answer
-/// may be told of one that is refused.
+/// Several inputs of a leader with one save, if there is only one, are a step by it; if memory runs out for its answer,
+/// that may be the answer even if the input is refused.
 pub fn one_input_alone_is_a_step<M: Hosted, S: Stable<M::Command>>()
     ensures { (s : M.Setup) → OneIsAStep (⟦<M as Described>⟧.machine s) M.Setup M
         (keeper S.saved S.may_stand S.condition) }

@@ -7,7 +7,7 @@ use machine_laws::{Class, Hosted};
 use raft_log::{Live, NodeId};
 use wire_bytes::{Number, SessionId};
 
-/// Those of the effects that leave the node of this number in this run, in order. Takes no memory.
+/// Those of the effects that leave the node of this number in this run, in order. Needs no memory.
 pub fn leaving<M: Hosted>(
     id: NodeId,
     boot: Number,
@@ -20,8 +20,8 @@ pub fn leaving<M: Hosted>(
     effects
 }
 
-/// What goes to a client leaves at the client's node, in its run; what goes upstream where its
-/// session is live.
+/// What goes to a client leaves at the client's node, in its run; what goes upstream leaves where
+/// its session is live.
 fn leaves<M: Hosted>(id: NodeId, boot: Number, live: Option<Live>, effect: &M::Effect) -> bool
     ensures { result ≡ leaves id boot live (M.class effect.now) }
 {

@@ -1,7 +1,6 @@
-//! One node of a group that agrees on a log by Raft, with the machine that it hosts.
-//! Stands under world_run, node_cells and driver.
-//! What a step, a look, a start and a restart come to is the definition's; a node saves before anything leaves, and a
-//! refused step changes nothing.
+//! One node of a group that agrees on a log by Raft, with the machine that it hosts. world_run, node_cells and driver
+//! use it. A step, a look, a start and a restart do what the definition says; a node saves before anything leaves, and
+//! a refused step changes nothing.
 #![tactic(auto)]
 
 mod addition;

@@ -27,8 +27,8 @@ mod stepping;
 
 /// A node of a group, with the machine that it hosts and the store that it keeps.
 ///
-/// While it is up its store holds its boot, term, vote and log, and its machine stands after the
-/// bodies that it applied. Once it is down it shows the state from before, until it is restarted.
+/// While it is up its store holds its boot, term, vote and log, and its machine has taken what
+/// it applied. Once it is down it shows the state from before, until it is restarted.
 #[derive(Drop)]
 pub struct Node<M: Hosted, S: Stable<M::Command>> {
     alloc: Global,
@@ -67,8 +67,8 @@ impl<M: Hosted, S: Stable<M::Command>> Model for Node<M, S> {
 
 impl<M: Hosted, S: Stable<M::Command>> Node<M, S> {
     /// A node of this number in a group of this size begins its next run, over what the store
-    /// holds. It follows, knows no leader, and has applied nothing. Where it fails, the store is
-    /// dropped. `TermsSpent` where 2^60 runs were begun.
+    /// holds. It follows, knows no leader, and has applied nothing. If that fails, the store is
+    /// dropped. `TermsSpent` if 2^60 runs were begun.
     pub fn start(
         alloc: Global,
         id: NodeId,
@@ -96,7 +96,7 @@ impl<M: Hosted, S: Stable<M::Command>> Node<M, S> {
         })
     }
 
-    /// The node stops, and begins its next run, over what its store holds. Where that fails it is
+    /// The node stops, and begins its next run, over what its store holds. If that fails it is
     /// down, after a refusal too, since it can begin no run over that store.
     pub fn restart(&mut self) -> Result<(), NodeFault>
         ensures { IsRestarted (keeper S.saved S.may_stand S.condition) self.old result self.new }
@@ -123,8 +123,8 @@ impl<M: Hosted, S: Stable<M::Command>> Node<M, S> {
         }
     }
 
-    /// What happens to it, done and saved. What changes term, vote or log is saved before anything
-    /// leaves; after a refusal the node is as it was; after `Down` it shows the state from before.
+    /// Processes an input. What changes term, vote or log is saved before anything leaves; after a
+    /// refusal the node is unchanged; after `Down` it shows the state from before.
     pub fn step(
         &mut self,
         input: Input<Message<M::Command>, M::Command, M::Line>,
@@ -171,7 +171,7 @@ impl<M: Hosted, S: Stable<M::Command>> Node<M, S> {
         }
     }
 
-    /// Saves a step, and then makes it stand.
+    /// Saves a step, and then lets it take effect.
     fn stand(&mut self, step: Step<M::Command>) -> Result<Output<M::Command, M::Effect>, NodeFault>
         requires up { self.old.down ≡ None }
         requires may { MayStand self.old.state step }
@@ -193,7 +193,7 @@ impl<M: Hosted, S: Stable<M::Command>> Node<M, S> {
         }
     }
 
-    /// The next entry is applied, where it is committed.
+    /// Applies the next entry, if it is committed.
     fn apply(&mut self) -> Result<Output<M::Command, M::Effect>, NodeFault>
         requires up { self.old.down ≡ None }
         ensures { IsApplied M.effects M.class (keeper S.saved S.may_stand S.condition)
@@ -227,8 +227,8 @@ impl<M: Hosted, S: Stable<M::Command>> Node<M, S> {
         }
     }
 
-    /// The playback of a target by what was applied, where that reaches to a place; before it,
-    /// `Behind`. Nothing changes. Of a target that is not known nothing is played.
+    /// The playback of a target by what was applied, if that reaches a place; else `Behind`.
+    /// Nothing changes. An unknown target plays nothing.
     pub fn look(&self, target: &M::Target, from_place: u64) -> Result<Looked<M::Played>, NodeFault>
         ensures { IsLooked (⟦<M as Described>⟧.machine self.now.setup) from_place target.now
             self.now result }
@@ -252,7 +252,7 @@ impl<M: Hosted, S: Stable<M::Command>> Node<M, S> {
         self.id
     }
 
-    /// Its state, or where it is down the one from before what took it down.
+    /// Its state, or, if it is down, the one from before it went down.
     pub fn state(&self) -> &NodeState<M::Command>
         ensures { result.now ≡ self.now.state }
     {
@@ -275,7 +275,7 @@ impl<M: Hosted, S: Stable<M::Command>> Node<M, S> {
         self.state.log.copied_behind(Number::new(0), commit)
     }
 
-    /// The number of the line that is to be claimed next, by what was applied, where the node is up.
+    /// The number of the line to be claimed next, by what was applied, while the node is up.
     pub fn next_claim(&self) -> Option<Number>
         ensures { self.now.down ≡ None
             → result ≡ M.next_claim self.now.setup (applied_bodies self.now.state) }
@@ -283,8 +283,8 @@ impl<M: Hosted, S: Stable<M::Command>> Node<M, S> {
         self.machine.next_claim()
     }
 
-    /// Does nothing. A node is sound; while it is up its machine stands after what it applied, and
-    /// an honest store holds what is to be saved of it.
+    /// Does nothing. A node is sound; while it is up its machine has taken what it applied, and an
+    /// honest store holds what is to be saved of it.
     pub fn is_whole(&self)
         ensures { IsWhole M.stands (keeper S.saved S.may_stand S.condition) self.now }
     {

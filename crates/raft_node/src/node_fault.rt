@@ -13,13 +13,13 @@ pub enum Cause {
     /// Its store failed.
     #[error("its store failed")]
     Store,
-    /// There was no memory.
+    /// Memory ran out.
     #[error("out of memory")]
     Memory,
 }
 
 impl Cause {
-    /// A store's want of memory is the node's; each other fault of it is the store's.
+    /// If a store runs out of memory so does its node; each other fault of it is the store's.
     pub fn of(fault: StoreFault) -> Cause
         ensures { result ≡ cause_of fault }
     {
@@ -36,7 +36,7 @@ pub enum NodeFault {
     /// The node is down until it is started again from its store.
     #[error("the node is down: {0}")]
     Down(Cause),
-    /// The node is as it was.
+    /// The node is unchanged.
     #[error("the node does not do it: {0:?}")]
     Refused(Refusal),
 }
@@ -52,7 +52,7 @@ impl NodeFault {
         }
     }
 
-    /// From 1 to 7, as they are printed.
+    /// Numbered from 1 to 7, as printed.
     pub fn number(self) -> u8
         ensures { result ≡ fault_number self }
     {
@@ -68,18 +68,18 @@ impl NodeFault {
     }
 }
 
-/// Why several inputs of a node were not done together.
+/// Why several inputs of a node were not processed together.
 #[derive(Drop)]
 pub struct Unsaved {
     /// Why the node is down.
     pub cause: Cause,
-    /// What each input answers once they are saved, in order, where a save of them was tried. None
-    /// where none was.
+    /// What each input answers once they are saved, in order, if a save of them was tried. Else
+    /// none.
     pub answers: Option<Vec<Result<(), Refusal>>>,
 }
 
 impl Unsaved {
-    /// Of inputs whose save was tried.
+    /// For inputs whose save was tried.
     pub fn tried(fault: NodeFault, answers: Vec<Result<(), Refusal>>) -> Unsaved
         ensures cause { result.cause ≡ cause_after fault }
         ensures answers { result.answers ≡ Some answers }

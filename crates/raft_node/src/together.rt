@@ -25,7 +25,7 @@ use std::alloc::{AllocError, Global};
 use wire_bytes::{Number, Wire};
 
 /// What a leader is about to do by inputs that only append, as far as they are planned: its
-/// session, the attempts made and the entries behind its log, and what each input answers.
+/// session, the attempts made, the entries after its log, and what each input answers.
 #[derive(Drop)]
 pub struct Together<B: Wire> {
     pub live: Option<Live>,
@@ -34,8 +34,8 @@ pub struct Together<B: Wire> {
     pub answers: Vec<Result<(), Refusal>>,
 }
 
-/// What the leader of this number is about to do by these inputs, each planned as if those before
-/// it stood. Nothing changes.
+/// What the leader of this number is about to do by these inputs, each planned as if the earlier
+/// ones had taken effect. Nothing changes.
 pub fn plan_together<M: Hosted>(
     alloc: Global,
     id: NodeId,
@@ -75,7 +75,7 @@ pub fn plan_together<M: Hosted>(
     Ok((step, together.answers))
 }
 
-/// The standing of a leader once what was planned so far stands.
+/// The standing of a leader after what was planned so far.
 fn led<B: Wire>(standing: &Standing, together: &Together<B>) -> Standing
     ensures { result ≡ leading standing.now together.now.live together.now.attempts }
 {
@@ -86,7 +86,7 @@ fn led<B: Wire>(standing: &Standing, together: &Together<B>) -> Standing
     }
 }
 
-/// What is to be appended is planned behind what was planned so far, where the log has room for it.
+/// Plans what is to be appended after what was planned so far, if the log has room for it.
 fn take_in<M: Hosted>(
     state: &NodeState<M::Command>,
     together: &mut Together<M::Command>,
@@ -103,7 +103,8 @@ fn take_in<M: Hosted>(
     Ok(together.answers.push(answer)?)
 }
 
-/// Appends a body where the log has room for it. Refused with `LogFull`, whatever memory there is.
+/// Appends a body if the log has room for it. Refused with `LogFull`, whether or not there is
+/// memory.
 fn append<M: Hosted>(
     state: &NodeState<M::Command>,
     together: &mut Together<M::Command>,

@@ -1,4 +1,4 @@
--- Comparing byte by byte finds the first line that is another.
+-- Comparing byte by byte finds the first line that differs.
 use Rattle.std.proofs.Common.{◌≡◌, ℕ, suc, ◌<◌, Bool, true, false, List, [], ◌∷◌, length, refl, sym, ap, ◌∙◌, arith}
 use Rattle.std.specs.Prelude.{◌==◌, if◌then◌else◌}
 use Rattle.std.proofs.lemmas.Bool.Decides.{nat_tests}
@@ -6,11 +6,11 @@ use Rattle.records.specs.declared.verdict.Verdict.{Verdict}
 use Rattle.records.specs.declared.verdict.Verdict.TheVariants.{Same, Differs}
 use Rattle.records.specs.Verdicts.{put_byte, lines_of, first_other, verdict}
 
--- the number of the line behind a byte
+-- the number of the line after a byte
 abbrev pub next_line : ℕ → ℕ → ℕ
 next_line number b = if b == 10 then suc number else number
 
--- what the texts come to, byte by byte
+-- the result for the texts, byte by byte
 abbrev pub by_bytes : ℕ → List ℕ → List ℕ → Verdict
 by_bytes number [] [] = Same
 by_bytes number [] (b ∷ bs) = Differs number
@@ -57,13 +57,13 @@ pub verdict_is : (a b : List ℕ) → verdict a b ≡ by_bytes 1 a b
 unfolding verdict
 verdict_is a b = sym (compare 1 a b)
 
--- where both texts end they are the same
+-- if both texts end they are the same
 pub both_end : (line : ℕ) (left other a b : List ℕ) → length left < 1 → length other ≡ 0 → by_bytes line left other ≡ by_bytes 1 a b → Same ≡ verdict a b
 both_end line [] [] a b l o h = h ∙ sym (verdict_is a b)
 both_end line [] (y ∷ other) a b l o h = absurd (omega (arith, o))
 both_end line (x ∷ left) other a b l o h = absurd (omega (arith, l))
 
--- where the first ends alone, they differ there
+-- if only one ends, they differ there
 pub one_ends : (line : ℕ) (left other a b : List ℕ) → length left < 1 → 0 < length other → by_bytes line left other ≡ by_bytes 1 a b → Differs line ≡ verdict a b
 one_ends line [] [] a b l o h = absurd (omega (arith, o))
 one_ends line [] (y ∷ other) a b l o h = h ∙ sym (verdict_is a b)

@@ -23,7 +23,7 @@ not_false : (b : Bool) → b ≡ false → not b ≡ true
 not_false true h = absurd cc
 not_false false h = refl
 
--- files of two versions do not begin alike
+-- files of two versions do not begin with the same bytes
 pub one_version : (v w : FileVersion) (r s : List ℕ) → version_mark v ++ r ≡ version_mark w ++ s → v ≡ w
 one_version First First r s e = refl
 one_version Second Second r s e = refl

@@ -1,4 +1,4 @@
--- The lines behind the setup's: events, and the line `outputs`.
+-- The lines after the setup's: events, and the line `outputs`.
 use Rattle.std.proofs.Common.{◌≡◌, ℕ, ◌+◌, false, List, [], ◌∷◌, ◌++◌, length, Option, Some, None, refl, sym, ap, subst, ◌∙◌, append_assoc, arith}
 use Rattle.std.specs.Prelude.{codes}
 use Rattle.std.proofs.lemmas.Grind.{flat_map-append}

@@ -1,4 +1,4 @@
--- Of the file of a record no fault is told but want of memory.
+-- For the file of a record no fault is reported except that memory ran out.
 use Rattle.std.proofs.Common.{◌≡◌, ⊎_elim, ℕ, Bool, List, ◌∷◌, ◌++◌, [], Some, None, refl, sym, subst, ◌∙◌, append_assoc, arith}
 use Rattle.std.specs.Prelude.{decimal}
 use Rattle.std.proofs.lemmas.List.{append_cancel_left}
@@ -18,7 +18,7 @@ use Rattle.records.proofs.Holding.{one_version}
 use Rattle.records.proofs.LineFronts.{setup_lacks, size_lacks}
 use Rattle.records.proofs.OneReading.{one_line, outputs_end}
 
--- texts of one version that are the same are so behind it
+-- texts of one version that are the same are the same after it
 same_behind : (v w : FileVersion) (r s input : List ℕ) → version_mark v ++ r ≡ input → version_mark w ++ s ≡ input → (v ≡ w) × (r ≡ s)
 same_behind v w r s input h k =
     let same : v ≡ w = one_version v w r s (h ∙ sym k) in
@@ -26,7 +26,7 @@ same_behind v w r s input h k =
 
 -- Over bodies, their spelling and its limits
 module _ {B : Type 0} (spelled : B → List ℕ) (fits : B → Type 0) where
-  -- what is events and then the line `outputs` has no bad item
+  -- events and then the line `outputs` have no bad item
   no_bad_item : (text : List ℕ) (number : ℕ) (events : List (Event B Parts (List ℕ))) (outputs : List ℕ) → FitEvents spelled fits events
       → text_of_events spelled fits events ++ (outputs_line ++ outputs) ≡ text → IsBadItem spelled fits text number → ⊥
   no_bad_item text number events outputs good whole b =

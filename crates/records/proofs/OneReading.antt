@@ -83,14 +83,14 @@ digits_are a b f g t =
     let two = decode_of-encode_lower b g in
     cc
 
--- Over setups and bodies of which no two have one spelling
+-- Over setups and bodies no two of which have one spelling
 module _ {S B : Type 0} (setup_spelled : S → List ℕ) (setup_fits : S → Type 0) (spelled : B → List ℕ) (fits : B → Type 0)
     (brings : B → Bool) (own_setup : (a b : S) → setup_fits a → setup_fits b → setup_spelled a ≡ setup_spelled b → a ≡ b) (own_body : (a b : B) → fits a → fits b → spelled a ≡ spelled b → a ≡ b) where
-  -- what stands behind the setup's line
+  -- what follows the setup's line
   abbrev rest_text : List (Event B Parts (List ℕ)) → List ℕ → List ℕ
   rest_text events outputs = text_of_events spelled fits events ++ (outputs_line ++ outputs)
 
-  -- what stands behind the version
+  -- what follows the version
   abbrev sized_text : ℕ → S → List (Event B Parts (List ℕ)) → List ℕ → List ℕ
   sized_text size setup events outputs = size_text (size, setup_text setup_spelled setup_fits (setup, rest_text events outputs))
 

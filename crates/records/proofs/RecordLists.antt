@@ -9,7 +9,7 @@ use Rattle.records.specs.Converting.{IsRecordOf}
 use Rattle.records.specs.RunText.{AreRecordsOf}
 
 module _ {B L T E P : Type 0} where
-  -- where what was converted and whatever the rest comes to are all, so it is with one record more
+  -- if what was converted and whatever the rest gives are all, so it is with one more record
   pub one_more : (nodes before after : List (NodeRecord B L T E P)) (all more : List (Record (Event B L T) (Outcome E P)))
       (r : NodeRecord B L T E P) (s : Record (Event B L T) (Outcome E P))
       → before ≡ r ∷ after → more ≡ all ++ s ∷ [] → IsRecordOf r s
@@ -19,7 +19,7 @@ module _ {B L T E P : Type 0} where
       subst (AreRecordsOf nodes) (sym (ap (λ xs. xs ++ ss) pushed ∙ append_assoc all (s ∷ []) ss))
       (done (s ∷ ss) (subst (λ ns. AreRecordsOf ns (s ∷ ss)) (sym is) (one, h)))
 
-  -- and where nothing is left, what was converted is all
+  -- and if nothing is left, what was converted is all
   pub none_left : (nodes rest : List (NodeRecord B L T E P)) (all : List (Record (Event B L T) (Outcome E P)))
       → rest ≡ []
       → ((ss : List (Record (Event B L T) (Outcome E P))) → AreRecordsOf rest ss → AreRecordsOf nodes (all ++ ss))

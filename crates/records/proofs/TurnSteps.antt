@@ -23,7 +23,7 @@ module _ {B E P : Type 0} (words : E → List ℕ) (played : P → List ℕ) whe
   abbrev pub turns_lines : ℕ → List (TurnOf B E P) → List ℕ
   turns_lines number turns = outcomes_lines words played number (events_of turns) (outcomes_of turns)
 
-  -- the lines of a turn were written: those of the turns behind it are left
+  -- the lines of a turn were written: those of the turns after it are left
   pub after_turn : (turns : List (TurnOf B E P)) (k node : ℕ) (turn : TurnOf B E P) (out new whole : List ℕ) → k < length turns → turn ≡ get_or turns k turn
       → node ≡ named_node turn.event → new ≡ out ++ outcome_lines words played (k + 1) node turn.outcome → out ++ turns_lines (suc k) (drop k turns) ≡ whole → new ++ turns_lines (suc (k + 1)) (drop (k + 1) turns) ≡ whole
   after_turn turns k node turn out new whole lt at names e h =
@@ -37,7 +37,7 @@ module _ {B O : Type 0} (spelled : B → List ℕ) (fits : B → Type 0) where
   abbrev pub turns_text : List (Turn (Event B Parts (List ℕ)) O) → List ℕ
   turns_text turns = text_of_events spelled fits (events_of turns)
 
-  -- the event of a turn was written: those of the turns behind it are left
+  -- the event of a turn was written: those of the turns after it are left
   pub after_event : (turns : List (Turn (Event B Parts (List ℕ)) O)) (k : ℕ) (turn : Turn (Event B Parts (List ℕ)) O) (out new whole : List ℕ) → k < length turns → turn ≡ get_or turns k turn
       → new ≡ (out ++ text_of_event spelled fits turn.event) ++ 10 ∷ [] → out ++ turns_text (drop k turns) ≡ whole → new ++ turns_text (drop (k + 1) turns) ≡ whole
   after_event turns k turn out new whole lt at e h =
@@ -49,7 +49,7 @@ module _ {B O : Type 0} (spelled : B → List ℕ) (fits : B → Type 0) where
       let one : (out ++ text_of_event spelled fits turn.event) ++ 10 ∷ [] ≡ out ++ line = append_assoc out (text_of_event spelled fits turn.event) (10 ∷ []) in
       rw (e, next, one) (append_assoc out line rest ∙ both)
 
--- the line of a node was written: those of the nodes behind it are left
+-- the line of a node was written: those of the nodes after it are left
 pub after_state : (nodes : List (ℕ × NodeFields)) (k : ℕ) (node : ℕ × NodeFields) (out new whole : List ℕ) → k < length nodes → node ≡ get_or nodes k node
     → new ≡ out ++ fields_line node.0 node.1 → out ++ nodes_text (drop k nodes) ≡ whole → new ++ nodes_text (drop (k + 1) nodes) ≡ whole
 after_state nodes k node out new whole lt at e h =

@@ -30,7 +30,7 @@ all_same n (a ∷ rest) = let s = same_byte a in let ih = all_same (next_line n 
 pub same_is_equal : (a b : List ℕ) → (verdict a b ≡ Same → a ≡ b) × (a ≡ b → verdict a b ≡ Same)
 same_is_equal a b = (λ h. equal 1 a b (sym (verdict_is a b) ∙ h), λ e. subst (λ (x : List ℕ). verdict a x ≡ Same) e (verdict_is a a ∙ all_same 1 a))
 
--- the first other line is so many behind the first
+-- the first line that differs is this many after the first
 record IsBehind (number k : ℕ) (xs ys : List (List ℕ)) : Type 0 where
   pub places : ℕ
   pub is : k ≡ number + places
@@ -63,7 +63,7 @@ differs number k [] (y ∷ ys) h = record { places = 0; is = omega (arith, line_
 differs number k (x ∷ xs) [] h = record { places = 0; is = omega (arith, line_is number k h); before = refl; here = λ s. absurd cc }
 differs number k (x ∷ xs) (y ∷ ys) h = differs_by number k x y xs ys (same_bytes x y) refl h (differs (suc number) k xs ys)
 
--- the line that is told is the first other one
+-- the line that is reported is the first that differs
 pub differs_is_first : (a b : List ℕ) (line : ℕ) → verdict a b ≡ Differs line → IsFirstOther line (lines_of a) (lines_of b)
 unfolding verdict
 differs_is_first a b line h =

@@ -17,14 +17,14 @@ module _ {B O : Type 0} (spelled : B → List ℕ) (fits : B → Type 0) where
   each_is_all [] h = All-nil (λ (t : Turn (Event B Parts (List ℕ)) O). IsWritable spelled fits t.event)
   each_is_all (t ∷ ts) h = All-cons (λ (t : Turn (Event B Parts (List ℕ)) O). IsWritable spelled fits t.event) t ts h.0 (each_is_all ts h.1)
 
-  -- behind the last turn all are writable
+  -- after the last turn all are writable
   none_left : (i : ℕ) (turns : List (Turn (Event B Parts (List ℕ)) O)) → length turns ≤ i → AreWritableEach (drop i turns)
   none_left zero [] h = tt
   none_left (suc i) [] h = tt
   none_left zero (t ∷ ts) h = absurd (omega arith)
   none_left (suc i) (t ∷ ts) h = none_left i ts (omega arith)
 
-  -- where all are if those behind the last turn are, all are
+  -- if all are writable when those after the last turn are, all are
   pub all_at_end : (i : ℕ) (turns : List (Turn (Event B Parts (List ℕ)) O)) → length turns ≤ i
       → (AreWritableEach (drop i turns) → AreWritableEach turns) → AreWritableTurns spelled fits turns
   all_at_end i turns end whole = each_is_all turns (whole (none_left i turns end))

@@ -69,7 +69,7 @@ module _ {B L T E P : Type 0} where
   abbrev pub turn_of : ℕ → NodeTurn B L T E P → Turn (Event B L T) (Outcome E P)
   turn_of node t = record { ticket = t.ticket; event = event_of node t.event; outcome = t.outcome }
 
-  -- the same turns in the same order, of the same node, which is the same at the end
+  -- the same turns in the same order, of the same node, which has the same state at the end
   pub record IsRecordOf (r : NodeRecord B L T E P) (s : Record (Event B L T) (Outcome E P)) : Type 0 where
     pub node : s.node ≡ r.node
     pub turns : s.turns.items ≡ map (turn_of r.node) r.turns.items

@@ -1,4 +1,4 @@
--- That a record file is read in one way, and what one of before clients had names holds.
+-- That a record file is read in one way, and what a file from before clients had names holds.
 use Rattle.std.specs.Prelude.{◌≡◌, ℕ, Bool, false, List, ◌++◌, All}
 use Rattle.irc_line.specs.Lines.{Parts}
 use Rattle.world_events.specs.declared.event.Event.{Event}
@@ -18,7 +18,7 @@ module _ {S B : Type 0} (setup_spelled : S → List ℕ) (setup_fits : S → Typ
     pub lists : events ≡ other_events
     pub outs : outputs ≡ other_outputs
 
-  -- a text is the file of one record at most
+  -- a text is the file of at most one record
   abbrev pub IsReadOneWay : Type 0
   IsReadOneWay =
       (input : List ℕ) (size other_size : ℕ) (setup other_setup : S) (events other_events : List (Event B Parts (List ℕ))) (outputs other_outputs : List ℕ) →
@@ -33,7 +33,7 @@ module _ {S B : Type 0} (setup_spelled : S → List ℕ) (setup_fits : S → Typ
       IsRecordOf setup_spelled setup_fits spelled fits brings input size setup events outputs →
       version_mark First ++ rest ≡ input → All (λ e. event_brings_name brings e ≡ false) events
 
-  -- of the file of a record nothing is told but that memory is wanting
+  -- for the file of a record the only fault reported is that memory ran out
   abbrev pub HasNoFault : Type 0
   HasNoFault =
       (input : List ℕ) (size : ℕ) (setup : S) (events : List (Event B Parts (List ℕ))) (outputs : List ℕ) (fault : ReplayFault) →

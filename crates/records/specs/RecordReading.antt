@@ -1,4 +1,4 @@
--- What is read of a record file, and what is wrong with a text that is none.
+-- What is read from a record file, and what is wrong with a text that is none.
 use Rattle.std.specs.Prelude.{◌≡◌, ◌⊎◌, ℕ, ◌+◌, ◌<◌, ◌≤◌, Bool, true, false, not, List, ◌∷◌, ◌++◌, length, codes, Option, Some, None, ⊤}
 use Rattle.irc_line.specs.Lines.{Parts}
 use Rattle.raft_log.specs.Peers.{IsGroupSize}
@@ -49,7 +49,8 @@ module _ {B : Type 0} (spelled : B → List ℕ) (fits : B → Type 0) where
     pub fit : FitEvents spelled fits events
     pub whole : text_of_events spelled fits events ++ (outputs_line ++ outputs) ≡ text
 
-  -- This line, the first of this text being line 3, is neither an event nor `outputs`: so many events stand before it, and what is left, which may be nothing, begins with neither.
+  -- This line, the first of this text being line 3, is neither an event nor `outputs`: this many events come before it,
+  -- and what is left, which may be nothing, begins with neither.
   pub record IsBadItem (text : List ℕ) (number : ℕ) : Type 0 where
     pub before : List (Event B Parts (List ℕ))
     pub good : FitEvents spelled fits before
@@ -58,14 +59,14 @@ module _ {B : Type 0} (spelled : B → List ℕ) (fits : B → Type 0) where
     pub whole : text_of_events spelled fits before ++ rest ≡ text
     pub bad : (p : Option (Event B Parts (List ℕ)) × List ℕ) → FitsFirst p → item_text p ≡ rest → ⊥
 
-  -- what is told of a text of events
+  -- the fault of a text of events
   abbrev pub IsItemFault : List ℕ → ReplayFault → Type 0
   IsItemFault text Version = ⊥
   IsItemFault text (BadLine number) = IsBadItem text number
   IsItemFault text TooLong = ⊥
   IsItemFault text Memory = ⊤
 
--- the first line begins as that of a file of some version
+-- the first line begins as in a file of some version
 abbrev pub IsVersioned : List ℕ → Type 0
 IsVersioned input = (version : FileVersion) × ((rest : List ℕ) × (version_mark version ++ rest ≡ input))
 
@@ -104,14 +105,14 @@ module _ {S B : Type 0} (setup_spelled : S → List ℕ) (setup_fits : S → Typ
   abbrev pub IsBadLine : List ℕ → ℕ → Type 0
   IsBadLine input number = IsBadSize input number ⊎ (IsBadSetup input number ⊎ IsBadBehind input number)
 
-  -- what is told of a text that is no record file; of a long one nothing else
+  -- the fault of a text that is no record file; for a long one nothing else is reported
   abbrev pub IsFaultOf : List ℕ → ReplayFault → Type 0
   IsFaultOf input Version = (length input ≤ most_bytes) × (IsVersioned input → ⊥)
   IsFaultOf input (BadLine number) = (length input ≤ most_bytes) × IsBadLine input number
   IsFaultOf input TooLong = most_bytes < length input
   IsFaultOf input Memory = ⊤
 
-  -- The file has these parts, of which each event is one that a file of its version may hold.
+  -- The file has these parts, and each event is one that a file of its version may hold.
   pub record IsRecordOf (input : List ℕ) (size : ℕ) (setup : S) (events : List (Event B Parts (List ℕ))) (outputs : List ℕ) : Type 0 where
     pub version : FileVersion
     pub allowed : IsGroupSize size

@@ -56,7 +56,7 @@ module _ {S B : Type 0} (setup_spelled : S → List ℕ) (setup_fits : S → Typ
 abbrev pub node_text : ℕ × NodeFields → List ℕ
 node_text n = fields_line n.0 n.1
 
--- the lines of nodes, one behind the other
+-- the lines of nodes, one after the other
 abbrev pub nodes_text : List (ℕ × NodeFields) → List ℕ
 nodes_text nodes = flat_map node_text nodes
 
@@ -77,6 +77,6 @@ module _ {B O : Type 0} (spelled : B → List ℕ) (fits : B → Type 0) where
 
 -- Over bodies, the words of effects and the spelling of what is played
 module _ {B E P : Type 0} (words : E → List ℕ) (played : P → List ℕ) where
-  -- what came out of each turn, numbered from 1, and then what the nodes were
+  -- what came out of each turn, numbered from 1, and then the states of the nodes
   abbrev pub outputs_text : Merged (Event B Parts (List ℕ)) (Outcome E P) → List ℕ
   outputs_text run = outcomes_lines words played 1 (events_of run.turns.items) (outcomes_of run.turns.items) ++ nodes_text run.nodes.items

@@ -14,7 +14,7 @@ abbrev pub lines_of : List ℕ → List (List ℕ)
 lines_of [] = []
 lines_of (b ∷ rest) = if b == 10 then (10 ∷ []) ∷ lines_of rest else put_byte b (lines_of rest)
 
--- the first line, the first being of this number, that is different, missing or too many
+-- the first line, the first being of this number, that is different, missing or extra
 abbrev pub first_other : ℕ → List (List ℕ) → List (List ℕ) → Verdict
 first_other number [] [] = Same
 first_other number [] (line ∷ lines) = Differs number

@@ -13,8 +13,8 @@ use world_events::{Event, Input};
 use world_run::Outcome;
 use world_views::{NodeEvent, NodeInput};
 
-/// What happened to a node, as one of the events of its group: a message is named by its sender and by
-/// its number among those that the sender sent. None where a message came that no node sent.
+/// What happened to a node, as one of the events of its group: a message is named by its sender and by its number among
+/// those that the sender sent. None if a message came that no node sent.
 pub fn event_of<B: Wire, L, T>(node: NodeId, event: NodeEvent<B, L, T>) -> Option<Event<B, L, T>>
     ensures some { IfSome result (λ e. e ≡ event_of node event) }
     ensures none { IfNone result (IsOfAStranger event) }
@@ -70,7 +70,7 @@ fn turn_of<B: Wire, L, T, E: Drop, P: Drop>(
     })
 }
 
-/// What a node did, turn by turn, as one of its group. `Stranger` where a message came that no node sent.
+/// What a node did, turn by turn, as one of its group. `Stranger` if a message came that no node sent.
 pub fn record_of<B: Wire, L: Drop, T: Drop, E: Drop, P: Drop>(
     alloc: Global,
     own: NodeRecord<B, L, T, E, P>,

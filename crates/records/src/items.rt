@@ -16,7 +16,7 @@ use std::alloc::{AllocError, Global};
 use wire_bytes::Wire;
 use world_events::Event;
 
-/// How many lines stand before the first event, and one more.
+/// How many lines come before the first event, and one more.
 const FIRST_EVENT: u64 = 3;
 
 /// The version that the first line begins with, and what follows this.
@@ -46,7 +46,7 @@ pub fn first_size(text: &[u8]) -> Option<(GroupSize, &[u8])>
     }
 }
 
-/// The size of a group that a word tells.
+/// The size of a group that a word gives.
 fn group_size(word: &[u8]) -> Option<GroupSize>
     ensures { ReadsAs decimal IsGroupSize word.now result }
 {
@@ -109,7 +109,7 @@ fn keep<E: Drop>(events: &mut Vec<E>, event: E) -> Result<(), AllocError>
     Ok(events.push(event)?)
 }
 
-/// The event of the next line, or none where the line is `outputs`, and what follows the line.
+/// The event of the next line, or none if the line is `outputs`, and what follows the line.
 fn first_item<B: Dated>(
     alloc: Global,
     version: FileVersion,
@@ -133,7 +133,7 @@ fn first_item<B: Dated>(
     }
 }
 
-/// The event that a line without its end tells, where a file of this version may hold it.
+/// The event of a line without its end, if a file of this version may hold it.
 fn read_held<B: Dated>(
     alloc: Global,
     version: FileVersion,

@@ -1,8 +1,8 @@
-//! What the nodes of a run did: their records as one list, the text of a record file, and what is read of one.
-//! Stands under world_app and bouncer_run.
-//! The text of a run is the file of the merge of its nodes' records: what happened to each node, by rising ticket,
-//! and what came out of it. What is read of a text is the record whose file it is, and no text is the file of two;
-//! recorded lines are those of a run exactly where they are one text, else the first other line is told.
+//! What the nodes of a run did: their records as one list, the text of a record file, and what is read from one.
+//! world_app and bouncer_run use it. The text of a run is the file of the merge of its nodes' records: what happened to
+//! each node, by rising ticket, and what came out of it. What is read from a text is the record whose file it is, and
+//! no text is the file of two; recorded lines are those of a run exactly if they are one text, else the first other
+//! line is reported.
 #![tactic(auto)]
 
 mod converting;

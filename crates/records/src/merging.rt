@@ -5,14 +5,15 @@ ghost use Rattle.records.specs.Merging.{IsGathered, IsMergeOf};
 use crate::record::{Merged, Record};
 use std::alloc::{AllocError, Global};
 
-/// The turns of all records by rising ticket, each with what it gave itself. Turns of one ticket, which no
-/// run has, stand by their node, and those of one node as in its record. In the time of two sorts.
+/// The turns of all records by rising ticket, each with its own result. Turns with the same ticket, which no run has,
+/// are ordered by their node, and those of one node as in its record. Takes the time of two sorts.
 pub fn merge<E: Drop, O: Drop>(
     alloc: Global,
     records: Vec<Record<E, O>>,
 ) -> Result<Merged<E, O>, AllocError>
     ensures { IfOk result (IsMergeOf records.items) }
 {
+    // both sorts are stable, so turns with the same ticket stay in the order of their nodes
     let mut ranked = records;
     ranked.sort_by_key(|record| record.node.value())?;
     let mut merged = gather(alloc, ranked)?;
@@ -20,7 +21,7 @@ pub fn merge<E: Drop, O: Drop>(
     Ok(merged)
 }
 
-/// The turns of all records, one record's behind the other's, and what each node was.
+/// The turns of all records, one record's after the other's, and the state of each node.
 fn gather<E: Drop, O: Drop>(
     alloc: Global,
     records: Vec<Record<E, O>>,

@@ -14,8 +14,8 @@ use world_events::Event;
 use world_lines::{Spelled, named_by, push_outcome};
 use world_run::Outcome;
 
-/// Appends what came out of each turn, numbered from 1, and what the nodes were. After an error a part of
-/// it may have been appended.
+/// Appends what came out of each turn, numbered from 1, and the states of the nodes. After an error a part of it may
+/// have been appended.
 pub fn push_outputs<B: Wire, E: Words, P: Spelled>(
     out: &mut Vec<u8>,
     run: &Merged<Event<B, WireLine, Name>, Outcome<E, P>>,

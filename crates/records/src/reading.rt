@@ -13,7 +13,7 @@ use whole_input::MOST_BYTES;
 use wire_bytes::Wire;
 use world_events::Event;
 
-/// What is needed to run again what was recorded.
+/// What is needed to rerun what was recorded.
 #[derive(Drop)]
 pub struct Recording<S, B: Wire> {
     /// How many nodes there were.
@@ -22,11 +22,11 @@ pub struct Recording<S, B: Wire> {
     pub events: Vec<Event<B, WireLine, Name>>,
 }
 
-/// The parts of a record file, and the lines behind its line `outputs`, whatever they are. In a file of before
-/// clients had names a line whose body brings one is bad.
+/// The parts of a record file, and the lines after its line `outputs`, whatever they are. In a file from before clients
+/// had names a line whose body has one is bad.
 ///
-/// Of several faults the first is told: of the length, of the first line's front, and then of the lines in
-/// their order.
+/// Of several faults the first is reported: the length, the beginning of the first line, and then the lines in their
+/// order.
 pub fn parse_record<S: Wire, B: Dated>(
     alloc: Global,
     input: &[u8],

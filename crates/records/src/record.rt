@@ -5,10 +5,10 @@ use recorder::NodeFields;
 /// What happened to a node, and what came out of it.
 #[derive(Drop)]
 pub struct Turn<E, O> {
-    /// Its place among all turns of a run's nodes: of a later turn it is larger.
+    /// Its place among all turns of a run's nodes: a later turn has a larger one.
     pub ticket: u64,
     pub event: E,
-    /// What the turn itself gave, whatever the same event would give in another world.
+    /// The result of the turn itself, whatever the same event would give in another world.
     pub outcome: O,
 }
 
@@ -18,7 +18,7 @@ pub struct Record<E, O> {
     pub node: NodeId,
     /// Its turns, the first first.
     pub turns: Vec<Turn<E, O>>,
-    /// What it was at the end.
+    /// Its state at the end.
     pub state: NodeFields,
 }
 
@@ -27,6 +27,6 @@ pub struct Record<E, O> {
 pub struct Merged<E, O> {
     /// All turns, by rising ticket.
     pub turns: Vec<Turn<E, O>>,
-    /// What each node was at the end, by rising number.
+    /// The state of each node at the end, by rising number.
     pub nodes: Vec<(NodeId, NodeFields)>,
 }

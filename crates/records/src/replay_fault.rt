@@ -7,14 +7,14 @@ pub enum ReplayFault {
     /// The first line begins with neither `RBREC01 ` nor `RBREC02 `.
     #[error("Version")]
     Version,
-    /// The first line that is not what has to stand there; where the file ends before the line `outputs`,
-    /// the number after the last line.
+    /// The first line that is not what it has to be; if the file ends before the line `outputs`, the number after the
+    /// last line.
     #[error("line {0}: BadEvent")]
     BadLine(u64),
     /// The file has more than 67,108,864 bytes.
     #[error("InputTooLong")]
     TooLong,
-    /// There was no memory.
+    /// Memory ran out.
     #[error("Memory")]
     Memory,
 }

@@ -21,8 +21,8 @@ use world_events::Event;
 use world_lines::Spelled;
 use world_run::Outcome;
 
-/// The text of the record file of a run, by the records of its nodes: the size of the group, its setup, all
-/// turns by rising ticket, what came out of each of them as it was recorded, and what the nodes were.
+/// The text of the record file of a run, from the records of its nodes: the size of the group, its setup, all turns by
+/// rising ticket, what came out of each of them as it was recorded, and the states of the nodes.
 pub fn run_text<M>(
     alloc: Global,
     size: GroupSize,

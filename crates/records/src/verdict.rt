@@ -6,11 +6,11 @@ ghost use Rattle.records.specs.Verdicts.{verdict};
 #[derive(Clone, Copy, Debug, PartialEq, Eq)]
 pub enum Verdict {
     Same,
-    /// The line of this number, from 1, is the first that is different, missing or too many.
+    /// The line of this number, from 1, is the first that is different, missing or extra.
     Differs(u64),
 }
 
-/// Whether these lines are those of a run. A last line without its end is another than one with it.
+/// Whether these lines are those of a run. A last line without its end differs from one with it.
 #[tactic(auto, using(crate::proofs::Comparing::verdict_is))]
 pub fn verdict_of(recorded: &[u8], run: &[u8]) -> Verdict
     ensures { result ≡ verdict recorded.now run.now }

@@ -1,4 +1,4 @@
-//! That whatever happens to a node has a spelling: the types of its values keep their limits.
+//! That whatever happens to a node can be encoded: the types of its values keep their limits.
 ghost use Rattle.std.specs.Prelude.{◌≡◌};
 ghost use Rattle.recorder.specs.InputReadings.{IsWritable, IsWritableInput};
 ghost use Rattle.records.specs.RecordText.{AreWritableTurns};
@@ -10,7 +10,7 @@ use machine_laws::{Hosted, Machine};
 use wire_bytes::Wire;
 use world_events::{Event, Input};
 
-/// Does nothing. Each turn's event has a spelling.
+/// Does nothing. Each turn's event can be encoded.
 pub fn turns_are_writable<M: Hosted, O>(turns: &[Turn<Event<M::Command, WireLine, Name>, O>])
     ensures { AreWritableTurns M.Command.spelled M.Command.fits turns.now }
 {

@@ -16,8 +16,8 @@ use world_events::Event;
 use world_lines::Spelled;
 use world_run::Outcome;
 
-/// The text of the record file of a run: its size and setup, the events of its turns, and what came out of
-/// each turn as it was recorded, and what the nodes were at the end.
+/// The text of the record file of a run: its size and setup, the events of its turns, what came out of each turn as it
+/// was recorded, and the states of the nodes at the end.
 pub fn write_record<S: Wire, B: Wire, E: Words, P: Spelled>(
     alloc: Global,
     size: GroupSize,

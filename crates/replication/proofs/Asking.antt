@@ -1,4 +1,4 @@
--- The cases of a body that a node is given.
+-- The cases of a body that a node gets.
 use Rattle.std.proofs.Common.{zero, get_or, pred, ◌-◌, inl, inr, ◌≡◌, ℕ, suc, ◌+◌, ◌<◌, ◌≤◌, Bool, true, false, ◌&&◌, nat_lt, List, [], ◌∷◌, ◌++◌, map, length, take, All, Option, None, Some, refl, sym, ap, ◌∙◌, subst, arith, length-append}
 use Rattle.std.proofs.lemmas.Bool.{cond-true, cond-false, cases_lt}
 use Rattle.std.proofs.lemmas.List.Elements.{All-get_or, All-from_get_or}
@@ -63,7 +63,7 @@ candidate_not Candidate h = absurd (h refl)
 candidate_not (Leader live) h = refl
 
 module _ {B : Type 0} (s : Standing) (log : List (Entry B)) (step : Step B) (body : B) where
-  -- an entry behind the log
+  -- an entry after the log
   pub adds : (e : Entry B) → step.standing ≡ s → step.keep ≡ length log → step.entries.items ≡ e ∷ [] → step.messages.items ≡ [] → e ≡ record { term = s.term; body = body }
       → length log < entry_limit → IsStep (λ n. appending n body) s log step
   adds e new keep added silent is room =
@@ -132,7 +132,7 @@ module _ {B : Type 0} (s : Standing) (log : List (Entry B)) (step : Step B) (bod
       ∙ sym (cond-false (is_leader (role_of s.position)) (on_forward now body) (forwarded i now body (leader_of s.position)) role ∙ ap (λ (l : Option ℕ). forwarded i now body l) some)))
       refl (omega arith) (omega arith) (λ w. w)
 
-  -- a vote that is counted, and what is appended by it
+  -- a vote that is counted, and what it appends
   pub votes : (size from t : ℕ) (granted : Bool) (known : Standing) → is_candidate (role_of s.position) ≡ true
       → Becomes (λ n. election.on_vote size n from t granted) s log known → known.boot ≡ s.boot → known.term ≡ s.term → known.commit ≡ s.commit → (IsWithinLog s log → IsWithinLog known log)
       → IsStep (λ n. on_forward n body) known log step → IsStep (λ n. on_vote body size n from t granted) s log step

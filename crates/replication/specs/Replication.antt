@@ -1,4 +1,4 @@
--- Entries that are sent and taken, and what the answers come to: the steps of one node of a group.
+-- Entries that are sent and taken, and what the answers do: the steps of one node of a group.
 use Rattle.std.specs.Prelude.{ℕ, suc, pred, ◌+◌, ◌-◌, ◌==◌, Bool, true, false, ◌&&◌, List, [], ◌∷◌, ◌++◌, length, map, take, drop, max, min, Option, None, Some, nat_lt, nat_le, if◌then◌else◌}
 use Rattle.raft_log.specs.declared.entry.Entry.{Entry}
 use Rattle.raft_log.specs.declared.message.Message.{Message}
@@ -26,7 +26,7 @@ module _ {B : Type 0} where
   abbrev pub reply : ℕ → ℕ → ℕ → Bool → ℕ → Message B
   reply t i from ok place = message t i from (AppendReply ok place)
 
-  -- a node says so
+  -- a node answers so
   abbrev pub answering : ℕ → Node B → ℕ → Bool → ℕ → Node B
   answering i s from ok place = sending s (reply s.term i from ok place ∷ [])
 
@@ -44,7 +44,8 @@ module _ {B : Type 0} where
       then (if conflicts_within (drop prev s.log) entries (s.commit - prev) then s else appended i s from prev entries commit)
       else answering i s from false prev
 
-  -- the entries of a leader of a term that is not larger: a smaller one is refused, the sender of another is the known leader
+  -- the entries of a leader of a term that is not larger: a smaller one is refused, else the sender is the known leader
+  -- from then on
   abbrev pub on_append : ℕ → Node B → ℕ → ℕ → ℕ → ℕ → List (Entry B) → ℕ → Node B
   on_append i s from t prev prev_term entries commit =
       if nat_lt t s.term
@@ -53,18 +54,18 @@ module _ {B : Type 0} where
       then s
       else accepted i (record s { role = Follower; leader = Some from }) from prev prev_term entries commit)
 
-  -- a node's log is the same up to this place at least
+  -- a node's log is the same at least up to this place
   abbrev pub with_match : Node B → ℕ → ℕ → Node B
   with_match s j place =
       let reached : ℕ = max place (item_or s.matched j 0) in
       record s { matched = with_item s.matched j reached; next = with_item s.next j (suc reached) }
 
-  -- what a majority has of the own term is committed; the own log counts as a whole
+  -- what a majority has of the leader's own term is committed; its own log counts as a whole
   abbrev pub advanced : ℕ → ℕ → Node B → Node B
   advanced size i s =
       record s { commit = commit_place size (with_item s.matched i (length s.log)) s.log s.term s.commit (length s.log) }
 
-  -- the entry before is tried next, where that place was tried last
+  -- the place before is tried next, if that place was tried last
   abbrev pub stepped_back : Node B → ℕ → ℕ → Node B
   stepped_back s j place =
       if item_or s.next j 0 == suc place then record s { next = with_item s.next j (max 1 place) } else s
@@ -76,7 +77,7 @@ module _ {B : Type 0} where
       then (if ok then advanced size i (with_match s from place) else stepped_back s from place)
       else s
 
-  -- a body is appended in the own term
+  -- a body is appended in the node's own term
   abbrev pub appending : Node B → B → Node B
   appending s body = record s { log = s.log ++ record { term = s.term; body = body } ∷ [] }
 
@@ -93,7 +94,7 @@ module _ {B : Type 0} where
   abbrev pub ask : ℕ → Node B → B → Node B
   ask i s body = if is_leader s.role then on_forward s body else forwarded i s body s.leader
 
-  -- a candidate takes a vote; where it leads by it, it appends a blank body first
+  -- a candidate takes a vote; if it makes it leader, it appends a blank body first
   abbrev pub on_vote : B → ℕ → Node B → ℕ → ℕ → Bool → Node B
   on_vote blank size s from t granted =
       if is_candidate s.role then on_forward (election.on_vote size s from t granted) blank else s

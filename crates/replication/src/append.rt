@@ -9,11 +9,10 @@ use raft_log::{Batch, Kind, Log, Message, NodeId, Position, Standing, Step};
 use std::alloc::{AllocError, Global};
 use wire_bytes::{Number, Wire};
 
-/// Takes the entries of a leader whose term is not larger, as a receiver of AppendEntries does in Figure
-/// 2 of the Raft paper (section 5.3). A smaller term is refused; the sender of another is the known
-/// leader.
+/// Takes the entries of a leader whose term is not larger, as a receiver of AppendEntries does in Figure 2 of the Raft
+/// paper (section 5.3). A smaller term is refused; else the sender is the known leader from then on.
 ///
-/// Entries that conflict with committed ones are ignored. No node sends such.
+/// Entries that conflict with committed ones are ignored. No node sends any.
 pub fn on_append<B: Wire>(
     alloc: Global,
     standing: Standing,

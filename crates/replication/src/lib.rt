@@ -1,7 +1,6 @@
-//! How entries come from a leader to the other nodes, and how they are committed: the steps of a node that sends
-//! them, takes them, is answered, or is given a body.
-//! Stands under node_steps and raft_node.
-//! Each step is exactly the definition's case; what it saves fits a store, and what was committed stays.
+//! How entries come from a leader to the other nodes, and how they are committed: the steps of a node that sends them,
+//! takes them, gets an answer, or gets a body. node_steps and raft_node use it. Each step is exactly the definition's
+//! case; what it saves fits a store, and what was committed stays.
 #![tactic(auto)]
 
 mod append;

@@ -11,9 +11,9 @@ use raft_log::{Log, NodeId, Position, Standing, Step};
 use std::alloc::Global;
 use wire_bytes::{Number, Wire};
 
-/// Takes the answer to an append of this term, up to a place of the log, as "Leaders" in Figure 2 of the
-/// Raft paper says: what was taken raises a node's match and may commit entries; what was refused steps
-/// its next place back (section 5.3). Takes no memory.
+/// Takes the answer to an append of this term, up to a place of the log, as "Leaders" in Figure 2 of the Raft paper
+/// says: taken entries raise a node's match and may commit entries; refused ones step its next place back (section
+/// 5.3). Needs no memory.
 pub fn on_append_reply<B: Wire>(
     alloc: Global,
     standing: Standing,
@@ -32,7 +32,7 @@ pub fn on_append_reply<B: Wire>(
     Step::still(alloc, known, log)
 }
 
-/// What the answer leaves of the standing.
+/// The standing after the answer.
 fn replied<B: Wire>(
     standing: Standing,
     log: &Log<B>,
@@ -60,7 +60,7 @@ fn replied<B: Wire>(
     standing
 }
 
-/// A node's log is the same up to a place at least, and what a majority has may be committed.
+/// A node's log is the same at least up to a place, and what a majority has may be committed.
 fn taken<B: Wire>(
     standing: Standing,
     log: &Log<B>,
@@ -93,7 +93,7 @@ fn taken<B: Wire>(
     known
 }
 
-/// The entry before is tried next, where that place was tried last.
+/// The place before is tried next, if that place was tried last.
 fn refused<B: Wire>(standing: Standing, log: &Log<B>, from: NodeId, place: Number) -> Standing
     requires places { IsWithinLog standing log.now }
     requires within { place ≤ length log.now }
@@ -111,8 +111,8 @@ fn refused<B: Wire>(standing: Standing, log: &Log<B>, from: NodeId, place: Numbe
     known
 }
 
-/// The largest place above the commit that a majority has, this node's whole log counted, and whose entry
-/// has the current term, as section 5.4.2 of the Raft paper asks; none where there is no such place.
+/// The largest place above the commit that a majority has, this node's whole log counted, and whose entry has the
+/// current term, as section 5.4.2 of the Raft paper requires; none if there is no such place.
 #[tactic(auto, using(crate::proofs::Committing::place_none, crate::proofs::Committing::place_yes, crate::proofs::Committing::place_no_term, crate::proofs::Committing::place_no_majority))]
 pub fn commit_place<B: Wire>(standing: &Standing, log: &Log<B>, id: NodeId) -> Option<Number>
     ensures some { IfSome result (λ place. place ≡ committed_by standing.now log.now id) }

@@ -28,7 +28,7 @@ pub fn beat<B: Wire>(
     Ok(Step::still(alloc, standing, log))
 }
 
-/// What a leader sends to the other nodes.
+/// The messages of a leader to the other nodes.
 fn appends<B: Wire>(
     alloc: Global,
     standing: &Standing,

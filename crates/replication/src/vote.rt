@@ -8,9 +8,9 @@ use raft_log::{Log, LoggedBody, NodeId, Position, Standing, Step};
 use std::alloc::{AllocError, Global};
 use wire_bytes::{Number, Wire};
 
-/// Takes an answer to a request for a vote, as `election::on_vote` says. Where it makes the node leader,
-/// the log gets this blank body in the new term in the same step, if it has room: an entry of the own
-/// term is what a leader may commit (sections 5.4.2 and 8 of the Raft paper).
+/// Takes an answer to a request for a vote, as `election::on_vote` says. If it makes the node leader, the log gets this
+/// blank body in the new term in the same step, if it has room: a leader may commit only an entry of its own term
+/// (sections 5.4.2 and 8 of the Raft paper).
 pub fn on_vote<B: Wire>(
     alloc: Global,
     standing: Standing,

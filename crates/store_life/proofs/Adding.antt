@@ -1,4 +1,4 @@
--- An entry more of a leader that is node 1: all nodes get it, and it is committed and applied.
+-- One more entry of a leader that is node 1: all nodes get it, and it is committed and applied.
 use Rattle.std.proofs.Common.{◌≡◌, ℕ, suc, ◌≤◌, true, List, [], ◌∷◌, ◌++◌, length, take, Option, Some, nat_lt, refl, sym, ap, subst, ◌∙◌, arith, length-append}
 use Rattle.std.proofs.lemmas.Bool.{cond-true, lt-ltb}
 use Rattle.std.proofs.lemmas.List.{take-append-le}
@@ -22,7 +22,7 @@ module _ (M : Machine) (size : ℕ) (boot : ℕ → ℕ) (T n : ℕ) where
     pub stage : Stage M size boot T live attempts (length log) log n w
     pub committed : stage.lead.commit ≡ length log
 
-  -- where node 1 alone changes, the others keep what they have
+  -- if only node 1 changes, the others keep what they have
   stays : (log : List (Entry M.Body)) (s x : Node M.Body) (m k : ℕ) (w u : List (Node M.Body)) → 1 ≤ k → Becomes M size 1 x w u → Keeps M size boot T log s m k w
       → (t : Node M.Body) → t.next ≡ s.next → t.matched ≡ s.matched → Keeps M size boot T log t m k u
   stays log s x m k w u pos b old t next matched =
@@ -76,7 +76,7 @@ module _ (M : Machine) (size : ℕ) (boot : ℕ → ℕ) (T n : ℕ) where
           committed = all;
         })
 
-  -- an entry more of this term
+  -- one more entry of this term
   pub goes_round : (live : Option Live) (attempts : ℕ) (log : List (Entry M.Body)) (e : Entry M.Body) (w : List (Node M.Body)) → suc n ≡ size → 1 ≤ n → e.term ≡ T
       → Stage M size boot T live attempts (length log) (log ++ e ∷ []) 0 w → Reaches M w (Rest live attempts (log ++ e ∷ []))
   goes_round live attempts log e w f pos of_term st =

@@ -53,7 +53,7 @@ module _ (M : Machine) (size : ℕ) where
   stays_so : (i : ℕ) (s : Node M.Body) (w : List (Node M.Body)) → length w ≡ size → item w i ≡ Some s → Becomes M size i s w w
   stays_so i s w long at = record { long = long; now = at; others = λ j h. refl }
 
-  -- so many runs more
+  -- several more runs
   runs_on : (d b i : ℕ) (w : List (Node M.Body)) → length w ≡ size → item w i ≡ Some (idle b) → Reaches M w (Becomes M size i (idle (b + d)) w)
   runs_on zero b i w long at =
       here M w (Becomes M size i (idle (b + 0)) w) (let e : b ≡ b + 0 = omega arith in subst (λ (x : ℕ). Becomes M size i (idle x) w w) e (stays_so i (idle b) w long at))
@@ -67,7 +67,7 @@ module _ (M : Machine) (size : ℕ) where
       (λ v q. here M v (Becomes M size i (idle (b + suc d)) w) (subst (λ (x : ℕ). Becomes M size i (idle x) w v) e (again M size i (idle (suc b)) (idle (suc b + d)) w u v p q))))
 
   module _ (boot : ℕ → ℕ) where
-    -- The node of this number is of its run, where it is at most m, and else of its first.
+    -- The node of this number is of its run, if it is at most m, and else of its first.
     pub record Begins (m i : ℕ) (w : List (Node M.Body)) : Type 0 where
       pub now : ℕ
       pub there : item w i ≡ Some (idle now)

@@ -1,4 +1,4 @@
--- What leaves behind events that end with no session of a term.
+-- What leaves after events that end with no session of a term.
 use Rattle.std.proofs.Common.{◌≡◌, ℕ, suc, ◌==◌, Bool, true, List, [], ◌∷◌, ◌++◌, filter, length, Option, Some, None, refl, sym, ap, subst, ◌∙◌, arith, append_assoc}
 use Rattle.std.proofs.lemmas.List.{take_all}
 use Rattle.std.proofs.lemmas.Bool.{cond_both}
@@ -69,7 +69,7 @@ module _ (M : Machine) (size T : ℕ) where
         let lives : Lives s = (fine_at M size (before ++ es) (whole M size (before ++ es)) (length (before ++ es)) i s there).lives in
         step_foreign i s (own M (length w) i o s) (λ live e same. none es i s live at e same) (own_step M (length w) i s lives o)
 
-    -- what leaves behind these events hands out no line of such a session
+    -- what leaves after these events hands out no line of such a session
     pub all_foreign : (later es : List (Event M)) → All (λ e. IsForeign T (M.class e)) (left_of M (outs M later (run M (before ++ es) (start size))))
     all_foreign [] es = tt
     all_foreign (e ∷ later) es =

@@ -102,7 +102,7 @@ module _ (s : Settings) where
   one_more : (h : History TowerBody) (place : ℕ) (b : TowerBody) → (more : List (ℕ × SessionId)) × (claimed s ((place, b) ∷ h) ≡ claimed s h ++ more)
   one_more h place b = ⊎_elim (λ e. ([], e ∙ sym (append-nil (claimed s h)))) (λ p. ((p.1, p.0) ∷ [], p.3)) (adds h place b)
 
-  -- more bodies add claims behind those that were there
+  -- more bodies add claims after those that were there
   pub claims_more : (place : ℕ) (bodies : List TowerBody) (h : History TowerBody) → (more : List (ℕ × SessionId)) × (claimed s (came place bodies h) ≡ claimed s h ++ more)
   claims_more place [] h = ([], sym (append-nil (claimed s h)))
   claims_more place (b ∷ bodies) h =
@@ -110,7 +110,7 @@ module _ (s : Settings) where
       let r = claims_more (place + 1) bodies ((place, b) ∷ h) in
       (here.0 ++ r.0, r.1 ∙ ap (λ (l : List (ℕ × SessionId)). l ++ r.0) here.1 ∙ append_assoc (claimed s h) here.0 r.0)
 
-  -- a longer log adds claims behind those of its beginning
+  -- a longer log adds claims after those of its beginning
   pub claims_begin : (xs ys : List (Entry TowerBody)) → Begins xs ys → (more : List (ℕ × SessionId)) × (claimed s (history ys) ≡ claimed s (history xs) ++ more)
   claims_begin xs ys p =
       let whole : history ys ≡ came (1 + length xs) (map (λ (e : Entry TowerBody). e.body) p.0) (history xs) = ap history (sym p.1) ∙ came_append 1 xs p.0 [] in
@@ -145,7 +145,7 @@ module _ (s : Settings) where
       let whole : history ys ≡ came (1 + length xs) (map (λ (e : Entry TowerBody). e.body) p.0) (history xs) = ap history (sym p.1) ∙ came_append 1 xs p.0 [] in
       ap (λ (h : History TowerBody). slice_get (outgoing s h) i) whole ∙ lines_more (1 + length xs) (map (λ (e : Entry TowerBody). e.body) p.0) (history xs) i line at
 
-  -- the same of bodies at one place
+  -- the same for bodies at one place
   pub lines_stay_at : (place : ℕ) (bodies : List TowerBody) (h : History TowerBody) (i : ℕ) (line : Parts) → slice_get (outgoing s h) i ≡ Some line → slice_get (outgoing s (came_at place bodies h)) i ≡ Some line
   lines_stay_at place [] h i line at = at
   lines_stay_at place (b ∷ bodies) h i line at = lines_stay_at place bodies ((place, b) ∷ h) i line (line_stays h place b i line at)
@@ -190,7 +190,7 @@ module _ (s : Settings) where
     session_of k (fence.Heard id n at line) e h = now_of T (suc n) id (next_of T k.live id n h (both_true (is_next_line k.live id n) (nat_lt n (2 ^ 60)) e).0)
     session_of k (fence.Inner c) e h = h
 
-    -- what a leader keeps behind a body that it may bring
+    -- what a leader keeps after a body that it may bring
     keeps_term : (k : Leading) (next : Option ℕ) (b : TowerBody) → may_bring T own k next b ≡ true → IsOfTerm T k.live → IsOfTerm T (behind k b).live
     keeps_term k next (body.Inner (claims.Inner c)) e h = session_of k c e h
     keeps_term k next (body.Inner (claims.Claim id n)) e h = h
@@ -231,7 +231,7 @@ module _ (s : Settings) where
         first_of body.Blank e = λ i n id at. none_of_term i n id (ap (λ (l : List (ℕ × SessionId)). slice_get l i) (sym (blank_adds [] 1)) ∙ at)
         first_of (body.Mark m) e = absurd (no_way e)
 
-  -- what settles a list adds no claim
+  -- settling a list adds no claim
   pub settled_claims : (floors : List (ℕ × ℕ)) (h : History TowerBody) → claimed s (settled floors h) ≡ claimed s h
   settled_claims [] h = buffers_add h 0 command.Down
   settled_claims (f ∷ floors) h = settled_claims floors ((0, of_buffers (command.NodeGone f.0 f.1)) ∷ h) ∙ buffers_add h 0 (command.NodeGone f.0 f.1)

@@ -35,7 +35,7 @@ use Rattle.store_life.proofs.Opened.{make_at}
 use Rattle.store_life.proofs.Behind.{all_join, all_passing}
 use Rattle.store_life.proofs.Lists.{both_true, same_numbers}
 
--- this holds of the run of the client that an effect of this class goes to, by its node
+-- this holds for the run of the client that an effect of this class goes to, by its node
 abbrev pub OfRuns : (ℕ → ℕ → Type 0) → Class Parts → Type 0
 OfRuns B (To o) = B o.0 o.1
 OfRuns B (Hand id n line) = Unit {0}
@@ -51,7 +51,7 @@ leaves_of_run B i boot live (Rejoin id line) b e = tt
 leaves_of_run B i boot live Nowhere b e = tt
 
 module _ (M : Machine) (size : ℕ) (B : ℕ → ℕ → Type 0) (all : List (Event M)) where
-  -- on the way to the end, from these events on, it holds of each node's run
+  -- on the way to the end, from these events on, it holds for each node's run
   abbrev pub HoldsFrom : List (Event M) → Type 0
   HoldsFrom before = (es later : List (Event M)) → (before ++ es) ++ later ≡ all → (a : ℕ) (s : Node M.Body) → item (run M (before ++ es) (start size)) a ≡ Some s → B a s.boot
 
@@ -113,7 +113,7 @@ module _ (p : Period) (B : ℕ → ℕ → Type 0) (holds : HoldsFrom (tower p.s
       clients_told B (left_of (tower p.settings) (outs (tower p.settings) p.events (opening_of p))) k o
       (subst (λ (l : List (Event (tower p.settings))). All (λ e. OfRuns B (class_of e)) (left_of (tower p.settings) (outs (tower p.settings) p.events (run (tower p.settings) l (start p.size))))) none a) at
 
--- a node of a world stands in the world after more events
+-- a node of a world is in the world after more events
 stands_on : (s : Settings) (size : ℕ) (done more : List (Event (tower s))) (a : ℕ) (x : Node TowerBody) → item (run (tower s) done (start size)) a ≡ Some x
     → (y : Node TowerBody) × (item (run (tower s) (done ++ more) (start size)) a ≡ Some y)
 stands_on s size done more zero x at = absurd (cc at)
@@ -150,7 +150,7 @@ module _ (s : Settings) (boots : List ℕ) (term : ℕ) (bodies : List TowerBody
   abbrev opening : List (Event (tower s))
   opening = es0 ++ restarts (tower s) (length boots)
 
-  -- every node is of a run behind the one with which its store was begun
+  -- every node is of a run after the one with which its store was begun
   pub runs_behind : (es : List (Event (tower s))) (a : ℕ) (x : Node TowerBody) → item (run (tower s) (opening ++ es) (start (length boots))) a ≡ Some x → item_or boots a 0 < x.boot
   runs_behind es zero x at = absurd (cc at)
   runs_behind es (suc i) x at =

@@ -1,4 +1,4 @@
--- What a renewal writes may be begun anew, and goes on with what waits.
+-- What a renewal writes may be begun anew, and continues with what waits.
 use Rattle.std.proofs.Common.{◌≡◌, ◌⊎◌, ℕ, zero, suc, ◌+◌, ◌≤◌, ◌^◌, List, [], ◌∷◌, length, map, take, Some, slice_get, refl, sym, ap, subst, ◌∙◌, arith, length-take, ⊎_elim}
 use Rattle.std.proofs.lemmas.List.{length-map}
 use Rattle.machine_laws.specs.Runs as machine

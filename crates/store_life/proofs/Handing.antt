@@ -1,4 +1,4 @@
--- The lines that leave behind events: each has its claim in the agreed list.
+-- The lines that leave after events: each has its claim in the agreed list.
 use Rattle.std.proofs.Common.{◌≡◌, ℕ, zero, suc, ◌+◌, ◌<◌, ◌≤◌, ⊎_elim, List, [], ◌∷◌, ◌++◌, map, length, slice_get, Some, refl, sym, ap, subst, ◌∙◌, arith, append_assoc}
 use Rattle.std.proofs.lemmas.Bool.{cases_lt}
 use Rattle.irc_line.specs.Lines.{Parts}
@@ -64,7 +64,7 @@ class_above s k (Hand id m l) rest (suc i) n line a more at = more i at
 class_above s k (Rejoin id l) rest i n line a more at = more i at
 class_above s k Nowhere rest i n line a more at = more i at
 
--- what effects hand out whose lines are above a number
+-- effects hand out only lines above a number, if their lines are
 pub numbers_above : (s : Settings) (k : ℕ) (es : List TowerEffect) (i n : ℕ) (line : Parts) → All (λ e. IsAbove k (class_of e)) es → slice_get (world.hands (tower s) es) i ≡ Some (n, line) → k < n
 numbers_above s k [] i n line a at = absurd (cc at)
 numbers_above s k (e ∷ es) i n line a at = class_above s k (class_of e) (world.hands (tower s) es) i n line a.0 (λ j b. numbers_above s k es j n line a.1 b) at
@@ -96,7 +96,7 @@ module _ (s : Settings) where
       by_effects (claimed s h) (all_effects (answers s) h)
       (λ i n id line e. (i, ap (λ (cs : List (ℕ × SessionId)). slice_get cs i) (sym (all_hands_are_claims s h)) ∙ get_map (handed_over s h) i ((n, id), line) e))
 
-  -- so what leaves behind some events has its claims in what is agreed
+  -- so what leaves after some events has its claims in what is agreed
   pub left_claimed : (size : ℕ) (before es : List (Event (tower s))) →
       All (λ e. HasClaim (claimed s (history (agreed (tower s) size (before ++ es)))) (class_of e)) (left_of (tower s) (outs (tower s) es (run (tower s) before (start size))))
   left_claimed size before es =
@@ -124,7 +124,7 @@ module _ (s : Settings) where
       in_front (y ∷ xs) ys zero x lt e = e
       in_front (y ∷ xs) ys (suc i) x lt e = in_front xs ys i x (omega arith) e
 
-  -- where nothing was claimed
+  -- if nothing was claimed
   pub above_none : (all : List (ℕ × SessionId)) → ((i n : ℕ) (id : SessionId) → slice_get all i ≡ Some (n, id) → n ≡ i + 1) → (c : Class Parts) → HasClaim all c → IsAbove 0 c
   above_none all order (To o) has = tt
   above_none all order (Rejoin id line) has = tt

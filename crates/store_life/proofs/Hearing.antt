@@ -38,7 +38,7 @@ module _ {B : Type 0} where
       ∙ ap (λ (x : Bool). x && nat_le m.from size) c
       ∙ d
 
-  -- a message of the own term is handled
+  -- a message of the node's own term is handled
   pub heard_now : (blank : B) (size i : ℕ) (s : Node B) (m : Message B) → is_heard size i m ≡ true → m.term ≡ s.term → on_message blank size i s m ≡ handled blank size i s m m.kind
   heard_now blank size i s m h t =
       let no : nat_lt s.term m.term ≡ false = ap (λ (x : ℕ). nat_lt s.term x) t ∙ same_term s.term in

@@ -51,7 +51,7 @@ module _ (s : Settings) (size : ℕ) (boot : ℕ → ℕ) (T n : ℕ) (f : suc n
     abbrev after : Leading
     after = behind (record { live = live; attempts = attempts }) b
 
-    -- what its machine stands behind
+    -- what its machine has taken
     applied_all : history (take r.stage.lead.applied (entries T done)) ≡ run done
     applied_all =
         ap history (ap (λ (k : ℕ). take k (entries T done)) r.stage.applied_is ∙ take_all (length (entries T done)) (entries T done) (omega arith)) ∙ ap run (bodies_in T done)

@@ -25,7 +25,7 @@ get_other (y ∷ xs) zero (suc j) x d h = refl
 get_other (y ∷ xs) (suc i) zero x d h = refl
 get_other (y ∷ xs) (suc i) (suc j) x d h = get_other xs i j x d (λ e. h (ap suc e))
 
--- what was written to a place, and what stands at another
+-- what was written to a place, and the item at another
 pub item_or_with : {A : Type 0} (xs : List A) (i : ℕ) (x d : A) → 1 ≤ i → i ≤ length xs → item_or (with_item xs i x) i d ≡ x
 item_or_with xs zero x d pos h = absurd (omega arith)
 item_or_with xs (suc i) x d pos h = get_set xs i x d (omega arith)
@@ -123,7 +123,7 @@ module _ {B : Type 0} where
       let long : nat_le p (length (take p log)) ≡ true = let e : length (take p log) ≡ p = long_taken p log h in grind (arith, nat_tests) in
       or_true (p == 0) _ (ap (λ (b : Bool). b && (term_at (take p log) p == term_at log p)) long ∙ terms)
 
-  -- with the rest of it taken over, it is the whole log
+  -- with the rest of it added, it is the whole log
   pub repaired : (p m : ℕ) (log : List (Entry B)) → p ≤ length log → length log ≤ p + m → repair (take p log) p (take m (drop p log)) ≡ log
   repaired p m log h few =
       let rest : length (drop p log) ≤ m = omega (arith, long_dropped p log h) in

@@ -1,4 +1,4 @@
--- Periods one behind the other: no line is handed upstream twice.
+-- Periods one after the other: no line is handed upstream twice.
 use Rattle.std.proofs.Common.{◌≡◌, ℕ, zero, suc, ◌+◌, ◌-◌, ◌<◌, ◌≤◌, ◌⊎◌, inl, inr, ⊎_elim, List, [], ◌∷◌, ◌++◌, map, length, drop, slice_get, Some, refl, sym, ap, ◌∙◌, arith}
 use Rattle.irc_line.specs.Lines.{Parts}
 use Rattle.machine_laws.specs.Runs as machine
@@ -11,7 +11,7 @@ use Rattle.store_life.proofs.Claims.{lines_stay_at, settled_claims}
 use Rattle.store_life.proofs.Opened.{made_at}
 use Rattle.store_life.proofs.Periods.{hands_its_lines}
 
--- what stands behind a place
+-- the items after a place
 behind_place : {A : Type 0} (c : ℕ) (xs : List A) (k : ℕ) → slice_get (drop c xs) k ≡ slice_get xs (c + k)
 behind_place zero xs k = let e : k ≡ 0 + k = omega arith in ap (slice_get xs) e
 behind_place (suc c) [] k = refl

@@ -21,7 +21,7 @@ use Rattle.store_life.specs.Renewed.{Leaves, all_begun_anew, begun_anew, entries
 use Rattle.store_life.specs.Openings.{AnewIsOpened, AnewKeepsThePromises, IsBefore, IsOpenedAnew, WereAnew}
 use Rattle.store_life.proofs.Left.{left, run_at}
 
--- what stands in a list whose items were made of others
+-- an item of a list that was made of another list
 pub made_at : {X S : Type 0} (f : X → S) (xs : List X) (k : ℕ) (y : S) → slice_get (map f xs) k ≡ Some y → (x : X) × (slice_get xs k ≡ Some x) × (f x ≡ y)
 made_at f [] k y e = absurd (cc e)
 made_at f (x ∷ xs) zero y e = (x, refl, cc e)
@@ -33,7 +33,7 @@ make_at f (y ∷ xs) zero x e = let same : y ≡ x = cc e in ap (λ z. Some (f z
 make_at f (y ∷ xs) (suc k) x e = make_at f xs k x e
 
 module _ (s : Settings) (boots : List ℕ) (term : ℕ) (bodies : List TowerBody) (es : List (Event (tower s))) (leaves : Leaves s es boots term bodies) where
-  -- a node in that world is saved so
+  -- what a node in that world has saved
   saved_at : (size i boot : ℕ) → size ≡ length boots → item boots (suc i) ≡ Some boot
       → (x : Node TowerBody) × (item (world_after (tower s) size es) (suc i) ≡ Some x) × (saved_by x ≡ begun_anew boot term (entries term bodies))
   saved_at size i boot long at =

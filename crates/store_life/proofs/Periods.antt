@@ -107,7 +107,7 @@ module _ (p : Period) where
   all_above : WereNew p ⊎ WereBegunAnew p → All (λ e. IsAbove (claimed_before p) (class_of e)) leaving
   all_above o = ⊎_elim (λ (a : WereNew p). all_of_new a) (λ (a : WereBegunAnew p). all_of_begun a) o
 
-  -- the lines of the period stand behind those that the events before it hand out
+  -- the lines of the period come after those that the events before it hand out
   abbrev earlier : List (ℕ × Parts)
   earlier = world.hands (tower p.settings) (left_of (tower p.settings) (outs (tower p.settings) p.before (start p.size)))
 

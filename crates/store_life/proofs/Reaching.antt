@@ -24,7 +24,7 @@ other_set (z ∷ xs) zero (suc j) x h = refl
 other_set (z ∷ xs) (suc i) zero x h = refl
 other_set (z ∷ xs) (suc i) (suc j) x h = other_set xs i j x (λ e. h (ap suc e))
 
--- what stands at the place that was written to, and at another
+-- the item at the place that was written to, and at another
 pub item_with : {A : Type 0} (xs : List A) (i : ℕ) (x y : A) → item xs i ≡ Some y → item (with_item xs i x) i ≡ Some x
 item_with xs zero x y h = absurd (cc h)
 item_with xs (suc i) x y h = item_set xs i x y h
@@ -35,7 +35,7 @@ item_other xs (suc i) zero x h = refl
 item_other xs (suc i) (suc j) x h = other_set xs i j x (λ e. h (ap suc e))
 
 module _ (M : Machine) where
-  -- some events lead from this world to one of which this holds
+  -- some events lead from this world to one for which this holds
   abbrev pub Reaches : List (Node M.Body) → (List (Node M.Body) → Type 0) → Type 0
   Reaches w P = (es : List (Event M)) × P (run M es w)
 
@@ -79,7 +79,7 @@ module _ (M : Machine) where
     pub beats : Becomes size i (turn M size i Beats s).node w (happens M w (world.Does (world.Beat i)))
     beats = owned (Acts Beats)
 
-  -- a message that was sent comes to whom it is to
+  -- a message that was sent comes to its receiver
   pub comes : (size j k : ℕ) (w : List (Node M.Body)) (s t : Node M.Body) (m : Message M.Body) → length w ≡ size → item w j ≡ Some s → item s.sent k ≡ Some m → item w m.to ≡ Some t
       → Becomes size m.to (on_message M.blank size m.to t m) w (happens M w (world.Does (world.Deliver j k)))
   comes size j k w s t m long at sent to =

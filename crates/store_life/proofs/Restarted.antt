@@ -48,7 +48,7 @@ module _ (s : Settings) (boots : List ℕ) (term : ℕ) (bodies : List TowerBody
     restarted_world : run (tower s) before (start size) ≡ map (restarted size) (run (tower s) es0 (start size))
     restarted_world = run-append (tower s) es0 (restarts (tower s) size) (start size) ∙ restarts_all (tower s) size (run (tower s) es0 (start size)) (world_length (tower s) size es0)
 
-    -- it began its next run behind them
+    -- it began its next run after them
     again_at : item (moment (tower s) size all (length before)) 1 ≡ Some (restarted size l.first)
     again_at =
         ap (λ (x : List (Event (tower s))). item (run (tower s) x (start size)) 1) (take-append_seam before es)

@@ -1,4 +1,4 @@
--- A leader whose followers have its whole log, all of it committed and applied: what it appends comes to that again.
+-- A leader whose followers have its whole log, all of it committed and applied: after an append it is so again.
 use Rattle.std.proofs.Common.{◌≡◌, ℕ, zero, suc, ◌+◌, ◌<◌, ◌≤◌, ◌==◌, ◌⊎◌, ⊎_elim, Bool, true, List, [], ◌∷◌, ◌++◌, map, length, Option, Some, nat_le, refl, sym, ap, subst, ◌∙◌, arith}
 use Rattle.std.proofs.lemmas.Bool.{cases_lt, le-leb, lt-ltb}
 use Rattle.std.proofs.lemmas.List.{take_all}
@@ -21,12 +21,12 @@ positive : (k : ℕ) → (suc k ≡ 1 → ⊥) → 1 ≤ k
 positive zero h = absurd (h refl)
 positive (suc k) h = omega arith
 
--- of all items behind the first
+-- for all items after the first
 shifted : (x l : ℕ) (xs : List ℕ) → ((i : ℕ) → 1 ≤ i → i ≤ length (x ∷ xs) → l ≤ item_or (x ∷ xs) i 0) → (i : ℕ) → 1 ≤ i → i ≤ length xs → l ≤ item_or xs i 0
 shifted x l xs f zero pos h = absurd (omega arith)
 shifted x l xs f (suc i) pos h = f (suc (suc i)) (omega arith) (omega arith)
 
--- where all have matched a place, so many have
+-- if all have matched a place, that many have
 full : (xs : List ℕ) (l : ℕ) → ((i : ℕ) → 1 ≤ i → i ≤ length xs → l ≤ item_or xs i 0) → tally (map (λ m. nat_le l m) xs) ≡ length xs
 full [] l f = refl
 full (x ∷ xs) l f =
@@ -46,7 +46,7 @@ at_end [] x = refl
 at_end (y ∷ xs) x = at_end xs x
 
 module _ (M : Machine) (size : ℕ) (boot : ℕ → ℕ) (T : ℕ) where
-  -- so many followers more have the whole log
+  -- several more followers have the whole log
   pub all_caught_up : (live : Option Live) (attempts applied : ℕ) (log : List (Entry M.Body)) (n d m : ℕ) (w : List (Node M.Body)) → m + d ≡ n → suc n ≡ size
       → Stage M size boot T live attempts applied log m w → Reaches M w (Stage M size boot T live attempts applied log n)
   all_caught_up live attempts applied log n zero m w e f st =

@@ -33,7 +33,8 @@ place_within : {B : Type 0} (size : ℕ) (matches : List ℕ) (log : List (Entry
 place_within size matches log t c k h = place_below size matches log t c k k h (omega arith)
 
 module _ (M : Machine) (size : ℕ) (boot : ℕ → ℕ) (T : ℕ) where
-  -- The follower behind place k has the first entries of this log, which the leader knows; the whole log, where k is at most m.
+  -- The follower after place k has the first entries of this log, which the leader knows; the whole log, if k is at
+  -- most m.
   pub record Keeps (log : List (Entry M.Body)) (s : Node M.Body) (m k : ℕ) (w : List (Node M.Body)) : Type 0 where
     pub node : Node M.Body
     pub place : ℕ
@@ -121,7 +122,7 @@ module _ (M : Machine) (size : ℕ) (boot : ℕ → ℕ) (T : ℕ) where
     low : item_or s1.matched (suc (suc m)) 0 ≤ length log
     low = omega (arith, kept.matched, kept.within)
 
-    -- node 1 as it is told so
+    -- node 1 when it gets that answer
     abbrev s3 : Node M.Body
     s3 = told size (suc (suc m)) T log s1
 

@@ -63,7 +63,7 @@ module _ (s : Settings) where
       (λ n. among_behind (hands (tower s) (left_of (tower s) (outs_at (tower s) i es os))) (hands (tower s) (left_of (tower s) os)) (hands (tower s) (effects_of o)) rest))
 
 module _ (r : RunningPeriod) (h : IsHistory (tower r.settings) (opened_after r) r.views r.records) where
-  -- the nodes as they were opened last
+  -- the nodes as they were last opened
   abbrev opened_last : List (Node TowerBody)
   opened_last = run (tower r.settings) (opened_after r) (start (length r.views))
 
@@ -87,7 +87,7 @@ module _ (r : RunningPeriod) (h : IsHistory (tower r.settings) (opened_after r) 
       (subst (λ (os : List (Out (tower r.settings))). AreAmong (hands (tower r.settings) (left_of (tower r.settings) (outs_at (tower r.settings) i r.records h.outs))) (hands (tower r.settings) (left_of (tower r.settings) os))) (sym outs_are)
       (of_one r.settings i r.records h.outs))
 
-  -- what events hand, and more events behind them
+  -- what events hand, and more events after them
   joined : (xs ys : List (Event (tower r.settings))) (w : List (Node TowerBody)) → hands (tower r.settings) (left_of (tower r.settings) (outs (tower r.settings) (xs ++ ys) w))
       ≡ hands (tower r.settings) (left_of (tower r.settings) (outs (tower r.settings) xs w)) ++ hands (tower r.settings) (left_of (tower r.settings) (outs (tower r.settings) ys (run (tower r.settings) xs w)))
   joined xs ys w =

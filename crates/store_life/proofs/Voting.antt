@@ -31,7 +31,7 @@ all_voted : (xs : List Bool) → ((i : ℕ) → 1 ≤ i → i ≤ length xs → 
 all_voted [] f = refl
 all_voted (x ∷ xs) f = ap (λ (b : Bool). tally (b ∷ xs)) (f 1 (omega arith) (omega arith)) ∙ ap suc (all_voted xs (shifted x xs f))
 
--- where all voted for it, a majority did
+-- if all voted for it, a majority did
 most_voted : (size : ℕ) (xs : List Bool) → 1 ≤ size → length xs ≡ size → ((i : ℕ) → 1 ≤ i → i ≤ length xs → item_or xs i false ≡ true) → majority size xs ≡ true
 most_voted size xs pos long f =
     let n : tally xs ≡ size = all_voted xs f ∙ long in
@@ -73,7 +73,7 @@ module _ (M : Machine) (size : ℕ) (boot : ℕ → ℕ) (t : ℕ) where
     heard_vote : is_heard size 1 (vote j) ≡ true
     heard_vote = is_heard_from size 1 (vote j) refl (λ e. omega arith) (omega arith) (omega arith)
 
-    -- a leader hears a vote more
+    -- a leader hears one more vote
     pub hears_late : (log : List (Entry M.Body)) (s : Node M.Body) → on_message M.blank size 1 (leading (boot 1) T log s) (vote j) ≡ leading (boot 1) T log s
     hears_late log s = heard_now M.blank size 1 (leading (boot 1) T log s) (vote j) heard_vote refl
 
@@ -121,7 +121,7 @@ module _ (M : Machine) (size : ℕ) (boot : ℕ → ℕ) (t : ℕ) where
     pub voted : (k : ℕ) → 1 ≤ k → k ≤ m → item w (suc k) ≡ Some (following (boot (suc k)) T [] (voter (suc k)))
     pub waits : (k : ℕ) → m < k → suc k ≤ size → item w (suc k) ≡ Some (idle M size (boot (suc k)))
 
-  -- what a vote more makes of node 1
+  -- what one more vote does to node 1
   pub record Takes (m : ℕ) (before : List (Message M.Body)) (s : Node M.Body) : Type 0 where
     pub now : Node M.Body
     pub is : on_message M.blank size 1 s (vote (suc (suc m))) ≡ now

@@ -27,7 +27,8 @@ module _ (s : Settings) where
   WereAnew boots term bodies views =
       (i boot : ℕ) (v : ViewOf (tower s)) → IsAt views i v → item boots (suc i) ≡ Some boot → IsOpenedAnew (length views) boot term (entries term bodies) v.opened
 
-  -- Events that leave what is begun anew, and a restart of every node behind them, come before nodes that were opened over it.
+  -- Events that leave what is begun anew, and a restart of every node after them, come before nodes that were opened
+  -- over it.
   pub record IsBefore (boots : List ℕ) (term : ℕ) (bodies : List TowerBody) (es : List (Event (tower s))) : Type 0 where
     pub leaves : Leaves s es boots term bodies
     pub opened : (views : List (ViewOf (tower s))) → length views ≡ length boots → WereAnew boots term bodies views → OpenedAfter (tower s) (es ++ restarts (tower s) (length boots)) views
@@ -36,7 +37,7 @@ module _ (s : Settings) where
   abbrev pub AnewIsOpened : Type 0
   AnewIsOpened = (boots : List ℕ) (term : ℕ) (bodies : List TowerBody) → IsAnew s boots term bodies → (es : List (Event (tower s))) × IsBefore boots term bodies es
 
-  -- so bouncers that run over it keep the promises of the bouncer, behind such events
+  -- so bouncers that run over it keep the promises of the bouncer, after such events
   abbrev pub AnewKeepsThePromises : Type 0
   AnewKeepsThePromises =
       (boots : List ℕ) (term : ℕ) (bodies : List TowerBody) → IsAnew s boots term bodies →

@@ -48,8 +48,8 @@ pub record WereBegunAnew (p : Period) : Type 0 where
   pub leaves : Leaves p.settings left_by boots term p.begun
   pub restarted : p.before ≡ left_by ++ restarts (tower p.settings) (length boots)
 
--- A period is so opened. At its end the stores of a majority are whole, and the others may be lost. The log that is chosen is one of some
--- node, at least as up to date as that of each node whose store is whole.
+-- The start of a period is one of these. At its end the stores of a majority are whole, and the others may be lost. The
+-- log that is chosen is one of some node, at least as up to date as that of each node whose store is whole.
 pub record IsPeriod (p : Period) : Type 0 where
   pub opened : WereNew p ⊎ WereBegunAnew p
   pub whole : List Bool  -- the nodes whose stores are whole
@@ -72,7 +72,7 @@ BegunIsAgreed = (p : Period) (a : WereBegunAnew p) (es : List (Event (tower p.se
 abbrev pub handed_in : Period → List (ℕ × Parts)
 handed_in p = hands (tower p.settings) (left_of (tower p.settings) (outs (tower p.settings) p.events (opening_of p)))
 
--- how many lines the bodies claim with which it began, and those of the log that is chosen at its end
+-- how many lines are claimed by the bodies with which it began, and by those of the log that is chosen at its end
 abbrev pub claimed_before : Period → ℕ
 claimed_before p = length (claimed p.settings (machine.run p.begun))
 
@@ -88,17 +88,18 @@ pub record HandsItsLines (p : Period) : Type 0 where
   pub differ : AllDiffer (handed_in p)
   pub grows : claimed_before p ≤ claimed_after p
 
--- so each period does
+-- each period does this
 abbrev pub EachHandsItsLines : Type 0
 EachHandsItsLines = (p : Period) → IsPeriod p → HandsItsLines p
 
--- A period follows another: the lines that wait where it begins are those that wait behind the chosen log of the other, settled.
+-- A period follows another: the lines that wait when it begins are those that wait after the chosen log of the other,
+-- settled.
 pub record Follows (p q : Period) : Type 0 where
   pub floors : List (ℕ × ℕ)
   pub waits : waiting q.settings (machine.run q.begun) ≡ waiting p.settings (settled floors (history p.chosen))
 
--- What becomes of the lines of the one in the other: those that were numbered keep their numbers in the settled list, which has no claim more;
--- the lines behind its claims are those behind the claims with which the other begins, one by one.
+-- What becomes of the lines of one in the other: those that were numbered keep their numbers in the settled list, which
+-- has no more claims; the lines after its claims are those after the claims with which the other begins, one by one.
 pub record GoOn (p q : Period) (f : Follows p q) : Type 0 where
   pub claims : claimed p.settings (settled f.floors (history p.chosen)) ≡ claimed p.settings (history p.chosen)
   pub stay : (i : ℕ) (line : Parts) → slice_get (outgoing p.settings (history p.chosen)) i ≡ Some line
@@ -106,22 +107,22 @@ pub record GoOn (p q : Period) (f : Follows p q) : Type 0 where
   pub go_on : (k : ℕ) → slice_get (outgoing q.settings (machine.run q.begun)) (claimed_before q + k)
       ≡ slice_get (outgoing p.settings (settled f.floors (history p.chosen))) (claimed_after p + k)
 
--- so it is where one follows another
+-- this holds if one follows another
 abbrev pub WaitingLinesGoOn : Type 0
 WaitingLinesGoOn = (p q : Period) (f : Follows p q) → GoOn p q f
 
--- a life: periods of which each but the first follows the one before
+-- a life: periods each of which, except the first, follows the one before
 abbrev pub IsLife : List Period → Type 0
 IsLife [] = Unit {0}
 IsLife (p ∷ []) = IsPeriod p
 IsLife (p ∷ q ∷ later) = IsPeriod p × Follows p q × IsLife (q ∷ later)
 
--- The serial of a line in a life, where so many lines were claimed in the periods before: these, and its number but for those that were claimed
--- when its period began. A line that waits from one period to the next has one serial in both.
+-- The serial of a line in a life, given how many lines were claimed in the periods before: these, and its number less
+-- those that were claimed when its period began. A line that waits from one period to the next has one serial in both.
 abbrev pub serial : ℕ → Period → ℕ → ℕ
 serial base p n = base + (n - claimed_before p)
 
--- so many lines were claimed up to its end
+-- how many lines were claimed up to its end
 abbrev pub base_behind : ℕ → Period → ℕ
 base_behind base p = base + (claimed_after p - claimed_before p)
 

@@ -10,12 +10,12 @@ use Rattle.store_life.specs.Renewed.{IsAnew, entries}
 use Rattle.store_life.specs.Periods.{Follows, Period}
 use Rattle.wire_bytes.specs.Limits.{number_limit}
 
--- the run of each of so many nodes in their new stores: one above its greatest
+-- the run of each of this many nodes in their new stores: one above its greatest
 abbrev pub runs_behind : ℕ → List ℕ → List ℕ
 runs_behind nodes greatest = take nodes (map (λ boot. boot + 1) greatest)
 
--- What a renewal writes for a group of so many nodes may be begun anew there, since one leader brings it; and its log is that of its bodies,
--- all of one term.
+-- What a renewal writes for a group of this size may be begun anew there, since one leader brings it; and its log is
+-- that of its bodies, all of one term.
 abbrev pub RenewedIsAnew : Type 0
 RenewedIsAnew =
     (s t : Settings) (forgotten : List (List ℕ)) (greatest : List ℕ) (term nodes : ℕ) (old new : List (Entry TowerBody)) →

@@ -1,4 +1,4 @@
--- Stores that were begun anew, and the events that leave them so.
+-- Stores that were begun anew, and the events that leave them in this state.
 use Rattle.std.specs.Prelude.{◌≡◌, ◌≤◌, ℕ, List, [], ◌∷◌, length, map, take, Some}
 use Rattle.wire_bytes.specs.declared.origin.Origin.{Origin}
 use Rattle.buffer_commands.specs.Settings.{Settings}
@@ -26,7 +26,7 @@ module _ {B : Type 0} where
   abbrev pub begun_anew : ℕ → ℕ → List (Entry B) → Saved B
   begun_anew boot term log = record { boot = boot; term = term; vote = Some 1; log = log }
 
-  -- the same of all nodes, by their runs, node 1's first
+  -- the same for all nodes, by their runs, node 1's first
   abbrev pub all_begun_anew : List ℕ → ℕ → List (Entry B) → List (Saved B)
   all_begun_anew boots term log = map (λ boot. begun_anew boot term log) boots
 
@@ -45,7 +45,7 @@ pub record IsAnew (s : Settings) (boots : List ℕ) (term : ℕ) (bodies : List 
   pub led : IsLed s term (client_of boots) bodies
 
 module _ (s : Settings) where
-  -- the nodes of a group of so many that these events led from new stores
+  -- the nodes of a group of this size to which these events led from new stores
   abbrev pub world_of : ℕ → List (Event (tower s)) → List (Node TowerBody)
   world_of size es = run (tower s) es (start size)
 

@@ -24,8 +24,8 @@ use Rattle.store_life.specs.Openings.{WereAnew}
 use Rattle.store_life.specs.Periods.{IsLife, IsPeriod, Period, WereBegunAnew, WereNew, base_behind, end_of, handed_in, serial}
 use Rattle.store_life.specs.Renewed.{IsAnew}
 
--- A period of nodes that ran: what happened over the stores before they were opened last, their views since, and the events of all records in
--- one list.
+-- A period of nodes that ran: what happened over the stores before they were last opened, their views since, and the
+-- events of all records in one list.
 pub record RunningPeriod : Type 0 where
   pub settings : Settings
   pub before : List (Event (tower settings))
@@ -35,7 +35,7 @@ pub record RunningPeriod : Type 0 where
   pub begun : List TowerBody
   pub chosen : List (Entry TowerBody)
 
--- the events before the nodes were opened last, and those that all records tell
+-- the events before the nodes were last opened, and those in all records
 abbrev pub opened_after : (r : RunningPeriod) → List (Event (tower r.settings))
 opened_after r = r.before ++ r.earlier
 
@@ -62,12 +62,12 @@ HasHistory r = IsHistory (tower r.settings) (opened_after r) r.views r.records
 abbrev pub AreAmong : List (ℕ × Parts) → List (ℕ × Parts) → Type 0
 AreAmong lines more = (k : ℕ) (h : ℕ × Parts) → slice_get lines k ≡ Some h → (m : ℕ) × (slice_get more m ≡ Some h)
 
--- what a node handed upstream in its view is what its period hands
+-- what a node handed upstream in its view is part of what its period hands
 abbrev pub ViewsHandOfTheirPeriod : Type 0
 ViewsHandOfTheirPeriod =
     (r : RunningPeriod) → HasHistory r → (i : ℕ) (v : ViewOf (tower r.settings)) → IsAt r.views i v → AreAmong (handed_by (tower r.settings) v) (handed_in (period_of r))
 
--- it is nothing that was handed before the nodes were opened last: no number is in both
+-- it is nothing that was handed before the nodes were last opened: no number is in both
 abbrev pub ViewsHandOthers : Type 0
 ViewsHandOthers =
     (r : RunningPeriod) → HasHistory r → (i : ℕ) (v : ViewOf (tower r.settings)) → IsAt r.views i v →
@@ -121,7 +121,7 @@ pub record IsChosen (r : RunningPeriod) : Type 0 where
   pub best : (i : ℕ) (v : ViewOf (tower r.settings)) → IsIn whole (suc i) → IsAt r.views i v →
       up_to_date (last_term r.chosen) (length r.chosen) (last_term v.state.log) (length v.state.log) ≡ true
 
--- then it is a period of the group, where the stores were new or begun anew
+-- then it is a period of the group, if the stores were new or begun anew
 abbrev pub RunIsPeriod : Type 0
 RunIsPeriod =
     (r : RunningPeriod) → HasHistory r → WereNew (period_of r) ⊎ WereBegunAnew (period_of r) → IsChosen r → IsPeriod (period_of r)
@@ -143,7 +143,7 @@ AnewRunBegins s =
     (before : List (Event (tower s))) × (es : List (PlacedOf (tower s))) × AreRunning s (before ++ []) views es
     × ((chosen : List (Entry TowerBody)) → WereBegunAnew (period_of (ran s before [] views es bodies chosen)))
 
--- nodes that run over stores that hold what a period left so far go on with it
+-- nodes that run over stores that hold what a period left so far continue it
 abbrev pub RunGoesOn : Settings → Type 0
 RunGoesOn s =
     (before earlier : List (Event (tower s))) (size next : ℕ) (views : List (ViewOf (tower s))) →

@@ -1,4 +1,4 @@
-//! What holds of stores that are begun anew.
+//! Laws of stores that are begun anew.
 ghost use Rattle.buffer_commands.specs.Settings.{Settings};
 ghost use Rattle.store_life.specs.Openings.{AnewIsOpened, AnewKeepsThePromises};
 ghost use Rattle.store_life.specs.Renewed.{AnewIsLeft};
@@ -14,8 +14,8 @@ pub fn begun_anew_stores_are_openings()
     ensures { (s : Settings) → AnewIsOpened s }
 {}
 
-/// So bouncers that run over honest stores which were begun anew keep all promises of the bouncer: their records, behind
-/// these events, are one history of the group, of which the whole headline holds.
+/// So bouncers that run over honest stores which were begun anew keep all promises of the bouncer: their records, after
+/// these events, are one history of the group, for which the whole headline holds.
 pub fn begun_anew_keeps_the_promises()
     ensures { (s : Settings) → AnewKeepsThePromises s }
 {}

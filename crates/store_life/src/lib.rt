@@ -1,7 +1,7 @@
-//! What becomes of stores that are begun anew with a list of bodies that one leader brings.
-//! Promises that some list of events leaves what such stores hold, so that all promises of the bouncer hold of the nodes
-//! that run over them; and that in the life of a store nothing that was agreed is lost and no line is handed upstream
-//! twice, also where a minority of the nodes loses its stores between two periods.
+//! Stores that are begun anew with a list of bodies that one leader brings. Some list of events leaves what such stores
+//! hold, so that all promises of the bouncer hold for the nodes that run over them; and in the life of a store nothing
+//! that was agreed is lost and no line is handed upstream twice, even if a minority of the nodes loses its stores
+//! between two periods.
 #![tactic(auto)]
 
 mod laws;

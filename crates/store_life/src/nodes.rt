@@ -1,12 +1,13 @@
-//! What holds of nodes that run, through the life of their stores.
+//! Laws of nodes that run, through the life of their stores.
 ghost use Rattle.buffer_commands.specs.Settings.{Settings};
 ghost use Rattle.store_life.specs.Running.{AnewRunBegins, NewRunBegins, RunGoesOn, RunIsPeriod};
 ghost use Rattle.store_life.specs.Running.{NodesEndAsViewed, NoneHandedAgain};
 ghost use Rattle.store_life.specs.Running.{ViewsHandOfTheirPeriod, ViewsHandOthers};
 
-/// Nodes that run over honest stores make a period of a life: over new stores the first, over stores that were begun anew
-/// one that begins with these bodies; those that are opened over what a period left go on with it. Its end is by the
-/// views of a majority whose stores are whole: the chosen log is of one of them, and at least as up to date as that of each.
+/// Nodes that run over honest stores make a period of a life: over new stores the first, over stores that were begun
+/// anew one that begins with these bodies; those that are opened over what a period left continue it. Its end is by the
+/// views of a majority whose stores are whole: the chosen log is of one of them, and at least as up to date as that of
+/// each.
 pub fn running_nodes_make_a_period()
     ensures new { (s : Settings) → NewRunBegins s }
     ensures anew { (s : Settings) → AnewRunBegins s }
@@ -14,8 +15,8 @@ pub fn running_nodes_make_a_period()
     ensures ends { RunIsPeriod }
 {}
 
-/// What a running node hands upstream is of what its period hands, and nothing that was handed before the nodes were opened
-/// last. At the end the node has saved what its view says.
+/// What a running node hands upstream is part of what its period hands, and nothing that was handed before the nodes
+/// were last opened. At the end the node has saved what its view says.
 pub fn views_are_of_their_period()
     ensures lines { ViewsHandOfTheirPeriod }
     ensures others { ViewsHandOthers }

@@ -1,4 +1,4 @@
--- What items bring one behind the other.
+-- What items bring one after the other.
 use Rattle.std.proofs.Common.{◌≡◌, List, [], ◌∷◌, ◌++◌, refl, ap, sym, ◌∙◌, append_assoc}
 use Rattle.irc_line.specs.declared.item.Item.{Item}
 use Rattle.uplink.specs.declared.session.Session.{Session}

@@ -62,9 +62,9 @@ failures-failed calls = list_any-append is_failure calls (Failed ∷ []) ∙ or-
 ends-ended : (calls : List Call) → list_any is_end (calls ++ Ended ∷ []) ≡ true
 ends-ended calls = list_any-append is_end calls (Ended ∷ []) ∙ or-true (list_any is_end calls)
 
--- How the calls stand
+-- The state of the calls
 
--- what a live uplink tells of its calls
+-- what a live uplink says about its calls
 pub record LiveCalls (nick : List ℕ) (calls : List Call) (s : Session) : Type 0 where
   pub no_end : list_any is_end calls ≡ false
   pub no_failure : list_any is_failure calls ≡ false
@@ -123,7 +123,7 @@ fed_replies link s bytes got nick calls l brings h =
     let more : items (bytes_of calls ++ bytes) ≡ items (bytes_of calls) ++ got = sym (brings (bytes_of calls) (h.held s l)) in
     sym (ap (λ t. replies_from (Registering nick) (items t)) all ∙ ap (λ t. replies_from (Registering nick) t) more ∙ replies-append (Registering nick) (items (bytes_of calls)) got ∙ ap (λ t. replies_from (Registering nick) (items (bytes_of calls)) ++ replies_from t got) (sym was.session))
 
--- memory was missing while it was live
+-- memory ran out while it was live
 pub failed_after : (link new : Link) (s : Session) (nick : List ℕ) (calls : List Call) → link.standing ≡ Live s → new.standing ≡ Lost → IsAfter link nick calls → IsAfter new nick (calls ++ Failed ∷ [])
 failed_after link new s nick calls l n h =
     let was : LiveCalls nick calls s = live_calls link nick calls s l h in
@@ -140,7 +140,7 @@ pub failed_replies : (nick : List ℕ) (calls : List Call) → replies_of nick c
 unfolding replies_of
 failed_replies nick calls = rw bytes-failed (append-nil (replies_of nick calls))
 
--- the end is told
+-- the end is reported
 pub ended_after : (link new : Link) (nick : List ℕ) (calls : List Call) → new.standing ≡ Over → IsAfter link nick calls → IsAfter new nick (calls ++ Ended ∷ [])
 ended_after link new nick calls n h =
     record {

@@ -26,7 +26,7 @@ second_left true b true false p q r = cc
 some_bytes : (b : ℕ) (rest : List ℕ) → nat_le 1 (length (b ∷ rest)) ≡ true
 some_bytes b rest = grind (arith, nat_tests)
 
--- a name with `_` after it fails by its length alone
+-- a name with `_` after it can fail only by its length
 pub longer_name : (nick : List ℕ) → is_name nick ≡ true → is_name (nick ++ 95 ∷ []) ≡ nat_le (length (nick ++ 95 ∷ [])) 64
 unfolding is_name
 longer_name [] h = cc

@@ -1,4 +1,4 @@
--- What holds over all calls.
+-- Laws over all calls.
 use Rattle.std.proofs.Common.{◌≡◌, ℕ, Bool, true, false, ◌&&◌, List, [], ◌∷◌, ◌++◌, refl, ap, ◌∙◌, append_assoc, arith, subst}
 use Rattle.std.specs.Prelude.{if◌then◌else◌, ◌==◌, IsTrue, Option, Some, None, codes, nat_le, length}
 use Rattle.std.specs.List.{list_any}
@@ -58,7 +58,7 @@ no_welcome : (word : List ℕ) → same_bytes word (codes "PING") ≡ true → s
 no_welcome [] h = cc
 no_welcome (b ∷ word) h = first_byte b (same_bytes word (codes "ING")) (same_bytes word (codes "01")) h
 
--- what a line means whose command is PING, 001 or 433, or is not
+-- the meaning of a line, by whether its command is PING, 001 or 433
 abbrev meaning_by : Bool → Bool → Bool → Meaning
 meaning_by ping welcome in_use = if ping then Ping else if welcome then Welcome else if in_use then NickInUse else Other
 
@@ -79,7 +79,7 @@ asking_inputs : (nick : List ℕ) (next : Option (List ℕ)) (xs : List Item) �
 asking_inputs nick None xs ih = ih nick
 asking_inputs nick (Some next) xs ih = ih next
 
--- what a line and what comes behind it give, where its command is PING, 001 or 433, or is not
+-- what a line and what comes after it give, by whether its command is PING, 001 or 433
 abbrev given_from : List ℕ → Meaning → Parts → List Item → List UplinkInput
 given_from nick meaning line xs = given_by (Registering nick) meaning line ++ inputs_from (after_meaning (Registering nick) meaning) xs
 
@@ -108,7 +108,7 @@ all_inputs nick calls = ap (λ t. t ++ closing calls) (first_inputs nick (items 
 
 -- The order of the inputs
 
--- the end, where it was told
+-- the end, if it was reported
 abbrev end_by : Bool → List UplinkInput
 end_by told = if told then Closed ∷ [] else []
 

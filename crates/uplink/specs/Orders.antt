@@ -1,4 +1,5 @@
--- What is given over all calls, told without a session: nothing before the first 001, and from it on all lines but PING.
+-- What is given over all calls, described without a session: nothing before the first 001, and from it on all lines
+-- except PING.
 use Rattle.std.specs.Prelude.{◌≡◌, ℕ, Bool, true, false, if◌then◌else◌, List, [], ◌∷◌, ◌++◌, codes}
 use Rattle.irc_line.specs.Names.{same_bytes}
 use Rattle.irc_line.specs.declared.item.Item.{Item}
@@ -12,7 +13,7 @@ abbrev pub is_welcome : Item → Bool
 is_welcome (Got line) = same_bytes line.command (codes "001")
 is_welcome (Refused fault) = false
 
--- the first 001 and what comes behind it
+-- the first 001 and what comes after it
 abbrev pub from_welcome : List Item → List Item
 from_welcome [] = []
 from_welcome (item ∷ items) = if is_welcome item then item ∷ items else from_welcome items
@@ -22,12 +23,12 @@ abbrev pub opening : List Item → List UplinkInput
 opening [] = []
 opening (item ∷ items) = Opened ∷ []
 
--- a line but PING is heard
+-- a line except PING is heard
 abbrev pub heard_at : Item → List UplinkInput
 heard_at (Got line) = if same_bytes line.command (codes "PING") then [] else Heard line ∷ []
 heard_at (Refused fault) = []
 
--- the lines but PING, in order
+-- the lines except PING, in order
 abbrev pub heard_of : List Item → List UplinkInput
 heard_of [] = []
 heard_of (item ∷ items) = heard_at item ++ heard_of items
@@ -41,7 +42,7 @@ abbrev pub is_last : List UplinkInput → Bool
 is_last [] = true
 is_last (input ∷ inputs) = false
 
--- lines that are heard, and then the end, once at most
+-- lines that are heard, and then the end, at most once
 abbrev pub is_heard_to_end : List UplinkInput → Bool
 is_heard_to_end [] = true
 is_heard_to_end (Opened ∷ inputs) = false

@@ -1,4 +1,4 @@
--- What is written to the upstream server: each line in its canonical spelling, with CR LF (RFC 2812, 3.1 and 3.7).
+-- What is written to the upstream server: each line in its canonical encoding, with CR LF (RFC 2812, 3.1 and 3.7).
 use Rattle.std.specs.Prelude.{ℕ, List, [], ◌∷◌, ◌++◌, Option, Some, None, codes}
 use Rattle.irc_line.specs.Lines.{parts, spelling}
 
@@ -14,7 +14,7 @@ nick_line nick = sent (codes "NICK") (nick ∷ [])
 abbrev pub user_line : List ℕ → List ℕ
 user_line nick = sent (codes "USER") (nick ∷ codes "0" ∷ codes "*" ∷ nick ∷ [])
 
--- the password, where there is one
+-- the password, if there is one
 abbrev pub password_line : Option (List ℕ) → List ℕ
 password_line None = []
 password_line (Some password) = sent (codes "PASS") (password ∷ [])

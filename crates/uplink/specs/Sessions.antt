@@ -1,4 +1,4 @@
--- What the lines of the upstream server bring about, one after the other.
+-- What the lines of the upstream server do, one after the other.
 use Rattle.std.specs.Prelude.{ℕ, if◌then◌else◌, nat_le, List, [], ◌∷◌, ◌++◌, length, codes, Option, Some, None}
 use Rattle.irc_line.specs.Lines.{Parts}
 use Rattle.irc_line.specs.Names.{same_bytes}
@@ -14,7 +14,7 @@ use Rattle.uplink.specs.Sending.{nick_line, pong}
 
 -- What a line means
 
--- PING asks for a sign of life (RFC 2812, 3.7.2), 001 takes the client in, and 433 says that the nick is in use (RFC 2812, 5)
+-- PING is a PING (RFC 2812, 3.7.2), 001 takes the client in, and 433 says that the nick is in use (RFC 2812, 5)
 abbrev pub meaning_of : Parts → Meaning
 meaning_of line =
     if same_bytes line.command (codes "PING")
@@ -27,23 +27,23 @@ meaning_of line =
 
 -- The nick
 
--- the nick to ask for where this one is in use: with `_` after it, while that is at most 64 bytes
+-- the nick to ask for if this one is in use: with `_` after it, while that is at most 64 bytes
 abbrev pub next_nick : List ℕ → Option (List ℕ)
 next_nick nick = if nat_le (length (nick ++ 95 ∷ [])) 64 then Some (nick ++ 95 ∷ []) else None
 
--- the session that asks for the next nick, where there is one, and else as it was
+-- the session that asks for the next nick, if there is one, and else unchanged
 abbrev pub asking : List ℕ → Option (List ℕ) → Session
 asking nick None = Registering nick
 asking nick (Some next) = Registering next
 
--- the next nick is asked for, where there is one
+-- the next nick is asked for, if there is one
 abbrev pub asked : Option (List ℕ) → List ℕ
 asked None = []
 asked (Some next) = nick_line next
 
 -- One line
 
--- how the session stands after a line of this meaning
+-- the session after a line of this meaning
 abbrev pub after_meaning : Session → Meaning → Session
 after_meaning (Registering nick) Ping = Registering nick
 after_meaning (Registering nick) Welcome = Open
@@ -51,7 +51,7 @@ after_meaning (Registering nick) NickInUse = asking nick (next_nick nick)
 after_meaning (Registering nick) Other = Registering nick
 after_meaning Open meaning = Open
 
--- what a line of this meaning gives: the first 001 opens the session, and from it on each line but PING is heard
+-- what a line of this meaning gives: the first 001 opens the session, and from it on each line except PING is heard
 abbrev pub given_by : Session → Meaning → Parts → List UplinkInput
 given_by (Registering nick) Ping line = []
 given_by (Registering nick) Welcome line = Opened ∷ Heard line ∷ []
@@ -62,7 +62,7 @@ given_by Open Welcome line = Heard line ∷ []
 given_by Open NickInUse line = Heard line ∷ []
 given_by Open Other line = Heard line ∷ []
 
--- what is written for a line of this meaning: each PING is answered, and a nick in use before the first 001 alone
+-- what is written for a line of this meaning: each PING is answered, and a nick in use only before the first 001
 abbrev pub written_for : Session → Meaning → Parts → List ℕ
 written_for (Registering nick) Ping line = pong line.parameters
 written_for (Registering nick) Welcome line = []
@@ -73,7 +73,7 @@ written_for Open Welcome line = []
 written_for Open NickInUse line = []
 written_for Open Other line = []
 
--- how the session stands after a line from the server
+-- the session after a line from the server
 unfoldable pub after_line : Session → Parts → Session
 after_line session line = after_meaning session (meaning_of line)
 
@@ -87,24 +87,24 @@ reply_to session line = written_for session (meaning_of line) line
 
 -- One item of the stream: what is no line changes nothing and gives nothing
 
--- how the session stands after an item: as before where that is no line
+-- the session after an item: unchanged if that is no line
 abbrev pub after_item : Session → Item → Session
 after_item session (Got line) = after_line session line
 after_item session (Refused fault) = session
 
--- what an item gives to the node: nothing where it is no line
+-- what an item gives to the node: nothing if it is no line
 abbrev pub inputs_at : Session → Item → List UplinkInput
 inputs_at session (Got line) = inputs_for session line
 inputs_at session (Refused fault) = []
 
--- the bytes that are written to the server for an item: none where it is no line
+-- the bytes that are written to the server for an item: none if it is no line
 abbrev pub reply_at : Session → Item → List ℕ
 reply_at session (Got line) = reply_to session line
 reply_at session (Refused fault) = []
 
 -- All items, in order
 
--- how the session stands after them
+-- the session after them
 abbrev pub after_items : Session → List Item → Session
 after_items session [] = session
 after_items session (item ∷ items) = after_items (after_item session item) items

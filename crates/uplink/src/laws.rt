@@ -1,4 +1,4 @@
-//! What holds of all calls of an uplink, as contracts of functions that do nothing.
+//! Laws of all calls of an uplink, as contracts of functions that do nothing.
 ghost use Rattle.std.specs.Prelude.{◌≡◌, ◌∷◌, ◌++◌, ℕ, List, IsTrue};
 ghost use Rattle.irc_line.specs.Names.{is_name};
 ghost use Rattle.irc_line.specs.Splitting.{items};
@@ -15,14 +15,14 @@ pub fn the_cutting_does_not_matter()
 {}
 
 /// Over all calls nothing is given before the first 001, which opens the session; from it on each
-/// line but PING is heard, and last comes the end, where it was told.
+/// line except PING is heard, and the end comes last, if it was reported.
 pub fn a_session_is_heard_from_its_first_welcome()
     ensures { (nick : List ℕ) (calls : List Call) →
         inputs_of nick calls ≡ session_inputs (items (bytes_of calls)) ++ closing calls }
 {}
 
-/// Over all calls a session opens once at most, before anything is heard, and ends once at most,
-/// behind all that is heard.
+/// Over all calls a session opens at most once, before anything is heard, and ends at most once,
+/// after all that is heard.
 pub fn a_session_opens_and_ends_once()
     ensures { (nick : List ℕ) (calls : List Call) → IsTrue (is_in_order (inputs_of nick calls)) }
 {}

@@ -1,7 +1,6 @@
-//! What speaks IRC to the upstream server, for the node that leads: it registers, answers PING, and
-//! tells when the session opens, what is heard and that it is closed.
-//! Stands under driver, and under the tests of buffer_cases and node_cases.
-//! Promises that what it gives and writes is that of a definition over all bytes fed, however these are cut.
+//! Speaks IRC to the upstream server, for the node that leads: it registers, answers PING, and reports when the session
+//! opens, what is heard and that it is closed. driver uses it, and so do the tests of buffer_cases and node_cases. What
+//! it gives and writes is that of a definition over all bytes fed, however these are cut.
 #![tactic(auto)]
 
 mod input;

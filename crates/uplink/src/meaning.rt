@@ -6,7 +6,7 @@ use irc_line::{Line, is_same};
 /// What a line means to a session, by its command alone.
 #[derive(Clone, Copy)]
 pub enum Meaning {
-    /// The server asks for a sign of life (RFC 2812, 3.7.2).
+    /// The server sends a PING (RFC 2812, 3.7.2).
     Ping,
     /// The server takes the client in: 001 (RFC 2812, 5.1).
     Welcome,

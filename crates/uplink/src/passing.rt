@@ -1,4 +1,4 @@
-//! What a line from the upstream server brings about.
+//! What a line from the upstream server does.
 ghost use Rattle.std.specs.Prelude.{◌≡◌, ◌++◌, IfOk, OnOk};
 ghost use Rattle.uplink.specs.Sessions.{after_items, after_line, asked, asking, inputs_for, inputs_from, next_nick, replies_from, reply_to};
 
@@ -9,7 +9,7 @@ use crate::{Passed, UplinkInput};
 use irc_line::{Item, Line, Name};
 use std::alloc::{AllocError, Global};
 
-/// The nick to ask for where this one is in use, while there is one.
+/// The nick to ask for if this one is in use, while there is one.
 fn next_nick(alloc: Global, nick: &Name) -> Result<Option<Name>, AllocError>
     ensures { IfOk result (λ next. next ≡ next_nick nick.now) }
 {
@@ -18,7 +18,7 @@ fn next_nick(alloc: Global, nick: &Name) -> Result<Option<Name>, AllocError>
     Ok(Name::from_bytes(bytes))
 }
 
-/// Asks for the next nick, where there is one.
+/// Asks for the next nick, if there is one.
 fn ask_again(alloc: Global, nick: Name, reply: &mut Vec<u8>) -> Result<Session, AllocError>
     ensures session { IfOk result (λ s. s ≡ asking nick (next_nick nick)) }
     ensures reply { OnOk result (reply.new.items ≡ reply.old.items ++ asked (next_nick nick)) }
@@ -32,7 +32,7 @@ fn ask_again(alloc: Global, nick: Name, reply: &mut Vec<u8>) -> Result<Session, 
     }
 }
 
-/// What a line brings before the server has welcomed the client.
+/// What a line does before the server has welcomed the client.
 #[tactic(auto, unfolding(crate::specs::Sessions::after_line, crate::specs::Sessions::inputs_for, crate::specs::Sessions::reply_to))]
 fn register(
     alloc: Global,
@@ -61,7 +61,7 @@ fn register(
     }
 }
 
-/// What a line brings in an open session.
+/// What a line does in an open session.
 #[tactic(auto, unfolding(crate::specs::Sessions::inputs_for, crate::specs::Sessions::reply_to))]
 fn hear(line: Line, passed: &mut Passed) -> Result<(), AllocError>
     ensures inputs { OnOk result (passed.new.inputs.items ≡
@@ -78,7 +78,7 @@ fn hear(line: Line, passed: &mut Passed) -> Result<(), AllocError>
     }
 }
 
-/// Adds what a line brings; the session that is then.
+/// Adds what a line brings. Returns the session after it.
 #[tactic(auto, unfolding(crate::specs::Sessions::after_line))]
 fn pass_line(
     alloc: Global,
@@ -101,7 +101,7 @@ fn pass_line(
     }
 }
 
-/// What items bring, in order, and the session that is then.
+/// What items bring, in order, and the session after them.
 pub fn pass_items(
     alloc: Global,
     session: Session,

@@ -8,7 +8,7 @@ ghost use Rattle.uplink.specs.Sending.{first_bytes, nick_line, password_line, po
 use irc_line::{Line, Name, Text, write_parts};
 use std::alloc::AllocError;
 
-/// Appends a command in its canonical spelling, with CR LF.
+/// Appends a command in its canonical encoding, with CR LF.
 #[tactic(auto, unfolding(crate::specs::Sending::sent))]
 fn send(out: &mut Vec<u8>, command: &[u8], parameters: &[&[u8]]) -> Result<(), AllocError>
     ensures { OnOk result (out.new.items ≡
@@ -18,7 +18,7 @@ fn send(out: &mut Vec<u8>, command: &[u8], parameters: &[&[u8]]) -> Result<(), A
     out.extend_from_slice(b"\r\n")
 }
 
-/// Appends what stands first on the connection.
+/// Appends what comes first on the connection.
 pub fn send_first(out: &mut Vec<u8>, nick: &Name, password: Option<&Text>) -> Result<(), AllocError>
     ensures { OnOk result (out.new.items ≡
         out.old.items ++ first_bytes nick.now (lent_prefix password.entry)) }
@@ -46,7 +46,7 @@ pub fn send_nick(out: &mut Vec<u8>, nick: &Name) -> Result<(), AllocError>
     send(out, b"NICK", &[nick.as_bytes()])
 }
 
-/// Appends the answer to a PING, where it has a parameter.
+/// Appends the answer to a PING, if it has a parameter.
 pub fn send_pong(out: &mut Vec<u8>, ping: &Line) -> Result<(), AllocError>
     ensures { OnOk result (out.new.items ≡ out.old.items ++ pong ping.now.parameters) }
 {

@@ -1,6 +1,6 @@
 use irc_line::Name;
 
-/// How the session with the upstream server stands.
+/// The state of the session with the upstream server.
 #[derive(Drop)]
 pub enum Session {
     /// The server has not welcomed the client yet; this nick was last asked for.

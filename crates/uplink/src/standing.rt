@@ -4,8 +4,8 @@ use crate::session::Session;
 #[derive(Drop)]
 pub enum Standing {
     Live(Session),
-    /// Memory was missing, so that lines may be lost; the end was not told yet.
+    /// Memory ran out, so lines may be lost; the end was not reported yet.
     Lost,
-    /// The end was told.
+    /// The end was reported.
     Over,
 }

@@ -10,7 +10,7 @@ use std::mem;
 
 /// A connection to the upstream server, for the node that leads.
 ///
-/// It is given bytes as they come, however they are cut, and tells what they mean to the node and
+/// It is fed bytes as they come, however they are cut, and returns what they mean to the node and
 /// what is to be written.
 #[derive(Drop)]
 pub struct Uplink {
@@ -35,8 +35,8 @@ impl Uplink {
     ghost use Rattle.uplink.specs.Calls.Call.{Ended, Fed, Failed};
     ghost use Rattle.uplink.specs.Sending.{first_bytes};
 
-    /// An uplink, and the bytes that are to be written first: PASS where there is a password, NICK
-    /// and USER (RFC 2812, 3.1), each whole, of any length.
+    /// An uplink, and the bytes that are to be written first: PASS if there is a password, NICK and
+    /// USER (RFC 2812, 3.1), each whole, of any length.
     pub fn new(
         alloc: Global,
         nick: Name,
@@ -56,7 +56,7 @@ impl Uplink {
         Ok((uplink, bytes))
     }
 
-    /// What these bytes bring. After a refusal lines may be lost, so nothing is given any more but
+    /// What these bytes bring. After an error lines may be lost, so nothing is given any more but
     /// the end; the connection should be closed.
     pub fn feed(&mut self, bytes: &[u8]) -> Result<Passed, AllocError>
         ensures ok { IfOk result (λ passed.
@@ -64,7 +64,7 @@ impl Uplink {
         ensures err { OnErr result (GoesOn self.old Failed self.new [] []) }
         ensures memory { OnErr result (IsLive self.old.standing) }
     {
-        // It is lost unless memory suffices to the end.
+        // if memory runs out below, the uplink stays lost
         match mem::replace(&mut self.standing, Standing::Lost) {
             Standing::Live(session) => {
                 let items = self.splitter.feed(bytes)?;
@@ -79,7 +79,7 @@ impl Uplink {
         }
     }
 
-    /// Tells that the connection is gone: `Closed`, the first time. It takes no memory.
+    /// Reports that the connection is gone: `Closed`, the first time. It needs no memory.
     pub fn end(&mut self) -> Option<UplinkInput>
         ensures { GoesOn self.old Ended self.new (option_to_list result) [] }
     {

@@ -1,4 +1,4 @@
--- What reading does to the bytes of a reader, and what a fault says of an input.
+-- What reading does to the bytes of a reader, and what a fault says about an input.
 use Rattle.std.specs.Prelude.{◌≡◌, ◌≢◌, ℕ, ◌<◌, ◌≤◌, List, length, take, Option, Some, None, IfSome, Result, Ok, Err, MatchResult}
 use Rattle.std.specs.IoError.{error_kind}
 use Rattle.std.specs.declared.io.Error.{Error}
@@ -25,15 +25,15 @@ IsTooLong remaining = IfSome remaining (λ bytes. most_bytes < length bytes)
 abbrev pub IsWithin : Option (List ℕ) → Type 0
 IsWithin remaining = IfSome remaining (λ bytes. length bytes ≤ most_bytes)
 
--- what becomes of an error: no bytes where it is an interruption and nothing else, a fault where it is another
+-- the result of an error: no bytes if it is an interruption and nothing else, a fault if it is another
 abbrev pub IsErrorJudged : ErrorKind → Result (Option ℕ) ReadFault → Type 0
 IsErrorJudged kind judged = (kind ≡ Interrupted → judged ≡ Ok None) × (kind ≢ Interrupted → judged ≡ Err Read)
 
--- what becomes of one read: as many bytes as came, or what becomes of its error
+-- the result of one read: as many bytes as came, or the result of its error
 abbrev pub IsReadJudged : Result ℕ Error → Result (Option ℕ) ReadFault → Type 0
 IsReadJudged outcome judged = MatchResult outcome (λ n. judged ≡ Ok (Some n)) (λ e. IsErrorJudged (error_kind e) judged)
 
--- none came where the read was interrupted; no bytes came only at the end
+-- none came if the read was interrupted; zero bytes came only at the end
 abbrev pub ReadGives : Option (List ℕ) → Option (List ℕ) → Option ℕ → List ℕ → Type 0
 ReadGives old new None chunk = Keeps old new
 ReadGives old new (Some n) chunk = (n ≤ length chunk) × Consumes old new (take n chunk) × (n ≡ 0 → 0 < length chunk → IsAtEnd new)

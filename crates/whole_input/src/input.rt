@@ -11,14 +11,14 @@ use std::io::{ErrorKind, Read};
 // An input may be held in memory whole, and a file that is longer is a wrong one.
 pub const MOST_BYTES: usize = 67_108_864;
 
-/// The most reads that are tried, those that were interrupted too.
+/// The most reads that are tried, interrupted ones included.
 pub const MOST_READS: u64 = 100_000_000;
 
 /// How many bytes are read at once.
-// A pipe holds as many, and more at once is not faster.
+// A pipe holds as many, and larger reads are not faster.
 pub const PIECE_LENGTH: usize = 65_536;
 
-/// All bytes of a reader. An input that is too long is known by its first byte past the limit.
+/// All bytes of a reader. An input that is too long is recognized by its first byte past the limit.
 pub fn read_whole<R: Read>(alloc: Global, reader: &mut R) -> Result<Vec<u8>, ReadFault>
     ensures whole { IfOk result (λ v. IfSome (R.remaining reader.old) (λ bytes. v.items ≡ bytes)) }
     ensures bounded { IfOk result (λ v. length v.items ≤ most_bytes) }
@@ -37,7 +37,7 @@ pub fn read_whole<R: Read>(alloc: Global, reader: &mut R) -> Result<Vec<u8>, Rea
     Err(ReadFault::Read)
 }
 
-/// The room into which the pieces of an input are read, one after the other.
+/// The room for the pieces of an input, one after the other.
 pub fn room_for_a_piece(alloc: Global) -> Result<Vec<u8>, ReadFault>
     ensures room { IfOk result (λ v. length v.items ≡ piece_length) }
     ensures fault { IfErr result (λ e. e ≡ ReadFault.Memory) }
@@ -45,7 +45,7 @@ pub fn room_for_a_piece(alloc: Global) -> Result<Vec<u8>, ReadFault>
     vec![in alloc; 0; PIECE_LENGTH].map_err(|_| ReadFault::Memory)
 }
 
-/// One read: how many bytes came, or none where it was interrupted.
+/// One read: how many bytes came, or none if it was interrupted.
 pub fn read_piece<R: Read>(reader: &mut R, room: &mut [u8]) -> Result<Option<usize>, ReadFault>
     ensures gives { IfOk result (λ count.
         ReadGives (R.remaining reader.old) (R.remaining reader.new) count room.new) }
@@ -54,7 +54,7 @@ pub fn read_piece<R: Read>(reader: &mut R, room: &mut [u8]) -> Result<Option<usi
     judged(reader.read(room))
 }
 
-/// What becomes of one read: of its errors only an interruption is none.
+/// The result of one read: an interruption is not an error.
 fn judged(outcome: io::Result<usize>) -> Result<Option<usize>, ReadFault>
     ensures { IsReadJudged outcome result }
 {
@@ -68,7 +68,7 @@ fn judged(outcome: io::Result<usize>) -> Result<Option<usize>, ReadFault>
     }
 }
 
-/// Appends what was read, where it fits.
+/// Appends what was read, if it fits.
 fn push_within(input: &mut Vec<u8>, read: &[u8]) -> Result<(), ReadFault>
     requires { length input.old.items ≤ most_bytes }
     ensures pushed { OnOk result (input.new.items ≡ input.old.items ++ read.now) }
@@ -80,7 +80,7 @@ fn push_within(input: &mut Vec<u8>, read: &[u8]) -> Result<(), ReadFault>
     input.extend_from_slice(read).map_err(|_| ReadFault::Memory)
 }
 
-/// How many bytes an input has, where more came to so many, if it may have as many.
+/// The length of an input after more bytes came, if it may be that long.
 pub fn count_within(bytes: usize, more: usize) -> Result<usize, ReadFault>
     requires { bytes ≤ most_bytes }
     ensures sum { IfOk result (λ all. all ≡ bytes + more) }

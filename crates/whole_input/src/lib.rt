@@ -1,7 +1,6 @@
-//! Inputs that are read whole, or piece by piece within the same limits.
-//! Stands under records, bouncer_run and fold_app.
-//! The bytes of an input that is read are all its bytes, at most 67,108,864; that it is too long is told only where
-//! it is so.
+//! Inputs that are read whole, or piece by piece within the same limits. records, bouncer_run and fold_app use it. The
+//! bytes of an input that is read are all its bytes, at most 67,108,864; an input is reported as too long only if it
+//! is.
 #![tactic(auto)]
 
 mod input;

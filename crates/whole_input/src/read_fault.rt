@@ -11,7 +11,7 @@ pub enum ReadFault {
     /// It could not be read, or not within 100,000,000 reads.
     #[error("Read")]
     Read,
-    /// There was no memory.
+    /// Memory ran out.
     #[error("Memory")]
     Memory,
 }

@@ -27,13 +27,14 @@ lt_or_le (suc k) (suc n) = ⊎_elim (λ h. inl (omega (arith, h))) (λ h. inr (o
 
 -- Over a machine, the size of a group and all events of a run:
 module _ (M : Machine) (size : ℕ) (all : List (Event M.Body M.Line M.Target)) where
-  -- These are the rows of all messages that a node has sent behind this row; the events that follow it bring the further ones.
+  -- These are the rows of all messages that a node has sent after this row; the events that follow it bring the further
+  -- ones.
   pub record IsKnown (row : ℕ) (rest : List (Event M.Body M.Line M.Target)) (w : List (Node M.Body)) (node : ℕ) (rows : List ℕ) : Type 0 where
     pub known : (k : ℕ) → k < length rows → get_or rows k 0 ≡ sent_in M size all node (suc k)
     pub ahead : (k : ℕ) → length rows ≤ k → first_with M node (suc k) row rest w ≡ sent_in M size all node (suc k)
     pub within : sent_count w node ≤ length rows
 
-  -- the same of all nodes
+  -- the same for all nodes
   pub record AreKnown (row : ℕ) (rest : List (Event M.Body M.Line M.Target)) (w : List (Node M.Body)) (rows : List (Vec ℕ)) : Type 0 where
     pub length_is : length rows ≡ size
     pub each : (index : ℕ) → index < size → IsKnown row rest w (suc index) (rows_at rows index)
@@ -59,7 +60,7 @@ module _ (M : Machine) (size : ℕ) (all : List (Event M.Body M.Line M.Target)) 
             };
       }
 
-  -- of what is sent in the last event of all, and of what is sent before others, the row is this one
+  -- for what is sent in the last event of all, and for what is sent before others, the row is this one
   here : (row node k : ℕ) (rest : List (Event M.Body M.Line M.Target)) (w : List (Node M.Body)) → k < sent_count w node → first_with M node (suc k) row rest w ≡ row
   here row node k [] w lt = refl
   here row node k (e ∷ rest) w lt = cond-false _ _ _ (le-ltb _ _ lt)
@@ -70,7 +71,7 @@ module _ (M : Machine) (size : ℕ) (all : List (Event M.Body M.Line M.Target)) 
       let less : sent_count w node < suc k = omega (arith, le) in
       cond-true _ _ _ (lt-ltb (sent_count w node) (suc k) less)
 
-  -- behind one more event, whose row is noted for what was sent further
+  -- after one more event, whose row is noted for what was sent further
   one_more : (row node : ℕ) (e : Event M.Body M.Line M.Target) (rest : List (Event M.Body M.Line M.Target)) (w : List (Node M.Body)) (rows : List ℕ)
       → IsKnown row (e ∷ rest) w node rows
       → (let w' = happens M w (event_of M e) in IsKnown (suc row) rest w' node (noted (suc row) (sent_count w' node) rows))
@@ -119,7 +120,7 @@ module _ (M : Machine) (size : ℕ) (all : List (Event M.Body M.Line M.Target)) 
   of_sender row rest w rows i number m None long was at sent = absurd (cc sent)
   of_sender row rest w rows i number m (Some s) long was at sent = of_number row rest w rows i number m s long was at sent
 
-  -- where a message was sent, its row is known
+  -- if a message was sent, its row is known
   row_known : (row : ℕ) (rest : List (Event M.Body M.Line M.Target)) (w : List (Node M.Body)) (rows : List (Vec ℕ)) (sender number : ℕ) (m : Message M.Body)
       → length w ≡ size → AreKnown row rest w rows → sent_of (item w sender) number ≡ Some m → row_in rows sender number ≡ Some (sent_in M size all sender number)
   row_known row rest w rows zero number m long was sent = absurd (cc sent)

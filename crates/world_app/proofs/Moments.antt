@@ -14,7 +14,7 @@ use Rattle.world_app.specs.Diagrams.{first_with, row_between, rows_from, sent_co
 use Rattle.world_app.proofs.Known.{lt_or_le}
 
 module _ (M : Machine) where
-  -- the world behind the first so many of these events, from this one on
+  -- the world after the first of these events, from this one on
   abbrev behind : ℕ → List (Event M.Body M.Line M.Target) → List (Node M.Body) → List (Node M.Body)
   behind k es w = run M (take k (events_of M es)) w
 
@@ -39,7 +39,8 @@ module _ (M : Machine) where
       row_shows es k e 1 w at
       ∙ ap (λ (n : ℕ). Some (row_between n e (stepper M (behind k es w) (event_of M e)) (behind k es w) (behind (suc k) es w))) plus
 
-  -- The search ends so many rows on, where the node has sent so many messages for the first time.
+  -- The search ends this many rows later, where the node has sent that many messages for the first
+  -- time.
   record IsFirst (sender number row : ℕ) (es : List (Event M.Body M.Line M.Target)) (w : List (Node M.Body)) (rows : ℕ) : Type 0 where
     place : first_with M sender number row es w ≡ row + rows
     sent : number ≤ sent_count (behind rows es w) sender

@@ -1,4 +1,4 @@
--- Rows of nodes, of which one changes.
+-- Rows of nodes, one of which changes.
 use Rattle.std.proofs.Common.{◌≡◌, ◌⊎◌, ⊎_elim, inl, inr, ℕ, zero, suc, ◌+◌, ◌-◌, ◌<◌, ◌≤◌, List, [], ◌∷◌, ◌++◌, append_assoc, append-nil, length, replicate, set, get_or, refl, sym, ap, subst, ◌∙◌, arith}
 use Rattle.std.proofs.lemmas.List.{length-append, length-set, get_or-set_same, get_or-set_other}
 use Rattle.std.proofs.lemmas.Option.{slice_get-get_or, slice_get_past}
@@ -8,12 +8,12 @@ use Rattle.raft_log.specs.Node.{Node}
 use Rattle.world_app.specs.Diagrams.{sent_count}
 use Rattle.world_app.specs.SendingRows.{AreEmpty, AreNoted, items_of, noted, rows_at}
 
--- the rows of a node that there is
+-- the rows of a node that exists
 pub rows_of_one : (all : List (Vec ℕ)) (index : ℕ) (rows : Vec ℕ) → index < length all → rows ≡ get_or all index rows → rows_at all index ≡ rows.items
 rows_of_one all index rows lt e =
     ap (λ (o : Option (Vec ℕ)). items_of o) (slice_get-get_or all index rows lt) ∙ ap (λ (v : Vec ℕ). v.items) (sym e)
 
--- of a node that is not there none
+-- none for a node that does not
 pub no_rows_at : (all : List (Vec ℕ)) (index : ℕ) → length all ≤ index → rows_at all index ≡ []
 no_rows_at all index past = ap (λ (o : Option (Vec ℕ)). items_of o) (slice_get_past all index past)
 

@@ -84,7 +84,7 @@ module _ (M : Machine) where
   arrows_begin sent es size w arrows new none =
       ap (λ (found : List Arrow). found ++ arrows_from M sent 1 es w) none ∙ ap (λ (v : List (Node M.Body)). arrows_from M sent 1 es v) new
 
-  -- the rows are known behind one more event
+  -- the rows are known after one more event
   pub known_next : (size : ℕ) (es : List (Event M.Body M.Line M.Target)) (k : ℕ) (e : Event M.Body M.Line M.Target) (w w' : List (Node M.Body)) (rows rows' : List (Vec ℕ))
       → k < length es → e ≡ get_or es k e → w' ≡ happens M w (event_of M e) → AreNoted (k + 1) w' rows rows'
       → AreKnown M size es k (drop k es) w rows → AreKnown M size es (k + 1) (drop (k + 1) es) w' rows'

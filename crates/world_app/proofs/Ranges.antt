@@ -1,4 +1,4 @@
--- What stands for each number of a range, number by number.
+-- The text for each number of a range, number by number.
 use Rattle.std.proofs.Common.{◌≡◌, ℕ, suc, ◌+◌, ◌-◌, ◌<◌, List, ◌∷◌, ◌++◌, append_assoc, flat_map, refl, ap, sym, ◌∙◌, arith}
 use Rattle.raft_log.specs.Lists.{range_from}
 
@@ -8,7 +8,7 @@ next_range a k lt =
     let f : a + 1 ≡ suc a = omega arith in
     rw (e, f) refl
 
--- a text goes on by what stands for the next number
+-- a text continues with the text for the next number
 pub next_text : (of : ℕ → List ℕ) (a k : ℕ) (now then all : List ℕ) → a < k → then ≡ now ++ of (a + 1) → now ++ flat_map of (range_from (suc a) (k - a)) ≡ all
     → then ++ flat_map of (range_from (suc (a + 1)) (k - (a + 1))) ≡ all
 next_text of a k now then all lt more was =

@@ -17,7 +17,7 @@ pub too_long : (number : ℕ) (bytes : List ℕ) → IsWord number → decimal n
 too_long number bytes word spelled long a short e =
     let same : a ≡ number = decimal_injective a number (omega (arith, short)) word (e ∙ sym spelled) in absurd (omega (arith, same, short, long))
 
--- what is told of the world of these events, over a setup, is their text
+-- the text of the world of these events, over a setup, is their text
 pub told_so :
     {V E : Type 0} (setup : Settings) (r : Result V E) (items : V → List ℕ) (size : ℕ) (events : List (Event TowerBody Parts (List ℕ))) (w : WorldParts Settings TowerBody TowerEffect (List ℕ)) →
     IfOk r (λ v. (s : Settings) → IsTextOf (tower s) tower_words (λ line. line) events w (items v)) → IsWorld (tower setup) size events w →

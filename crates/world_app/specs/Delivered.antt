@@ -14,11 +14,11 @@ use Rattle.world_app.specs.declared.delivered.Delivery.{Delivery}
 use Rattle.world_app.specs.Kinds.{delivery_of, kind_of}
 use Rattle.world_app.specs.SendingRows.{row_in}
 
--- to whom a message is, and what it is
+-- the receiver of a message, and the message's kind
 abbrev pub delivery_by : {B : Type 0} → Message B → Delivery
 delivery_by m = record { addressee = m.to; kind = kind_of m.kind }
 
--- the arrow of this message, delivered in this row, where it has a row in which it was sent
+-- the arrow of this message, delivered in this row, if it has a row in which it was sent
 abbrev pub arrow_from : ℕ → ℕ → ℕ → Option Delivery → Option ℕ → Option Arrow
 arrow_from row sender number None sent = None
 arrow_from row sender number (Some d) None = None
@@ -36,7 +36,7 @@ module _ {B : Type 0} where
     abbrev pub arrow_in : List (Node B) → List (Vec ℕ) → ℕ → Event B L T → Option Arrow
     arrow_in w rows row e = arrow_to w rows row (delivery_of e)
 
-    -- the node to which an input happens; 0 where there is no such message
+    -- the node to which an input happens; 0 if there is no such message
     abbrev pub node_in : List (Node B) → Input B L T → ℕ
     node_in w (Timeout i) = i
     node_in w (Beat i) = i
@@ -55,7 +55,7 @@ module _ {B : Type 0} where
     node_of w (Restart i) = i
     node_of w (StopIn x after) = node_in w x
 
--- an arrow as a list, which is empty where there is none
+-- an arrow as a list, which is empty if there is none
 abbrev pub arrows_of : Option Arrow → List Arrow
 arrows_of None = []
 arrows_of (Some a) = a ∷ []

@@ -15,7 +15,7 @@ use Rattle.world_app.specs.declared.diagram.NodeView.{NodeView}
 use Rattle.world_app.specs.declared.diagram.Row.{Row}
 use Rattle.world_app.specs.Kinds.{delivery_of, happening_of, kind_of}
 
--- what an event made of a node that was this before it and is that behind it
+-- how an event changed a node that was this before it and is that after it
 abbrev pub change_of : ℕ → Option NodeView → Option NodeView → Option Change
 change_of node None after = None
 change_of node (Some before) None = None
@@ -26,7 +26,7 @@ module _ {B : Type 0} where
   abbrev pub view_of : Node B → NodeView
   view_of s = record { role = s.role; term = s.term; commit = s.commit; boot = s.boot }
 
-  -- the same of the node of this number
+  -- the same for the node of this number
   abbrev pub view_at : List (Node B) → ℕ → Option NodeView
   view_at w node = option_map view_of (item w node)
 
@@ -58,28 +58,30 @@ module _ {B : Type 0} where
     arrow_by row w (Some d) = arrow_for row d.0 d.1 (sent_of (item w d.0) d.1)
 
 module _ (M : Machine) where
-  -- the rows of these events, of which the first has this number, from this world on
+  -- the rows of these events, the first of which has this number, from this world on
   abbrev pub rows_from : ℕ → List (Event M.Body M.Line M.Target) → List (Node M.Body) → List Row
   rows_from number [] w = []
   rows_from number (e ∷ es) w =
       row_between number e (stepper M w (event_of M e)) w (happens M w (event_of M e)) ∷ rows_from (suc number) es (happens M w (event_of M e))
 
-  -- The first row, from this one on, behind which a node has sent so many messages; these events follow it, from this world on.
+  -- The first row, from this one on, after which a node has sent this many messages; these events follow it, from this
+  -- world on.
   abbrev pub first_with : ℕ → ℕ → ℕ → List (Event M.Body M.Line M.Target) → List (Node M.Body) → ℕ
   first_with sender number row [] w = row
   first_with sender number row (e ∷ es) w =
       if nat_lt (sent_count w sender) number then first_with sender number (suc row) es (happens M w (event_of M e)) else row
 
-  -- the row in which a message was sent, of so many nodes over new stores to which these events happen; row 0 is before the first event
+  -- the row in which a message was sent, of this many nodes over new stores to which these events happen; row 0 is
+  -- before the first event
   abbrev pub sent_in : ℕ → List (Event M.Body M.Line M.Target) → ℕ → ℕ → ℕ
   sent_in size es sender number = first_with sender number 0 es (start size)
 
-  -- the arrows of what these events deliver, of which the first has this number, from this world on
+  -- the arrows of what these events deliver, the first of which has this number, from this world on
   abbrev pub arrows_from : (ℕ → ℕ → ℕ) → ℕ → List (Event M.Body M.Line M.Target) → List (Node M.Body) → List Arrow
   arrows_from sent_in number [] w = []
   arrows_from sent_in number (e ∷ es) w = arrow_by sent_in number w (delivery_of e) ++ arrows_from sent_in (suc number) es (happens M w (event_of M e))
 
-  -- The diagram of these events, that happen to so many nodes over new stores.
+  -- The diagram of these events, which happen to this many nodes over new stores.
   pub record IsDiagramOf (size : ℕ) (es : List (Event M.Body M.Line M.Target)) (d : Diagram) : Type 0 where
     pub size_is : d.size ≡ size
     pub last_is : d.last ≡ length es

@@ -46,7 +46,7 @@ module _ {B L T : Type 0} where
   delivery_in (Apply i) = None
   delivery_in (Look i from_place target) = None
 
-  -- the same of an event, also where the node stops while it happens
+  -- the same for an event, even if the node stops while it happens
   abbrev pub delivery_of : Event B L T → Option (ℕ × ℕ)
   delivery_of (Does x) = delivery_in x
   delivery_of (Restart i) = None

@@ -20,7 +20,7 @@ lane_x node = 200 * node
 abbrev pub row_y : ℕ → ℕ
 row_y row = 72 + 24 * row
 
--- words, and a number behind them
+-- words, and a number after them
 abbrev pub named : List ℕ → ℕ → List ℕ
 named words number = words ++ decimal number
 
@@ -52,16 +52,16 @@ same_role Leader Follower = false
 same_role Leader Candidate = false
 same_role Leader Leader = true
 
--- the role of a node behind an event, before which it had this role
+-- the role of a node after an event, given the role before it
 abbrev pub role_behind : ℕ → Role → Option Change → Role
 role_behind node role None = role
 role_behind node role (Some c) = if c.node == node then c.after.role else role
 
--- the line so far ends where the role changes
+-- the line so far ends if the role changes
 abbrev pub ended : ℕ → Role → Role → ℕ → ℕ → List ℕ
 ended node role next from row = if same_role role next then [] else segment node role from row
 
--- where the line begins that goes on behind a row
+-- where the line begins that continues after a row
 abbrev pub begun : Role → Role → ℕ → ℕ → ℕ
 begun role next from row = if same_role role next then from else row
 
@@ -76,7 +76,7 @@ line_from last node role from (row ∷ rows) =
 unfoldable pub lane : ℕ → List Row → ℕ → List ℕ
 lane last rows node = name node ++ line_from last node Follower 0 rows
 
--- the first words of a part of a text, which stands apart from the part before it
+-- the first words of a part of a text, which is set apart from the part before it
 unfoldable pub part_opening : List ℕ
 part_opening = codes "<tspan dx='6' class='"
 
@@ -84,12 +84,12 @@ part_opening = codes "<tspan dx='6' class='"
 unfoldable pub part : List ℕ → List ℕ → ℕ → List ℕ
 part class words number = part_opening ++ class ++ codes "'>" ++ named words number ++ codes "</tspan>"
 
--- the role that a node takes, where it is another one or in another term
+-- the role that a node takes, if it is another one or in another term
 unfoldable pub role_part : NodeView → NodeView → List ℕ
 role_part before after =
     if same_role before.role after.role && (before.term == after.term) then [] else part (role_class after.role) (role_words after.role) after.term
 
--- the place up to which a node commits now, where it is a later one
+-- the place up to which a node commits now, if it is a later one
 unfoldable pub commit_part : NodeView → NodeView → List ℕ
 commit_part before after = if nat_lt before.commit after.commit then part (codes "commit") (codes "commits ") after.commit else []
 
@@ -128,7 +128,7 @@ row_text row = placed (codes "number") 152 (row_y row.number + 4) ++ decimal row
 unfoldable pub arrow_end : ℕ → ℕ → List ℕ
 arrow_end addressee delivered = named (codes "L") (lane_x addressee) ++ named (codes " ") (row_y delivered) ++ codes "'>"
 
--- the event that delivered it, which is shown where the arrow is pointed at
+-- the event that delivered it, which is shown when the pointer is on the arrow
 unfoldable pub arrow_title : ℕ → ℕ → List ℕ
 arrow_title sender number = named (codes "<title>deliver ") sender ++ named (codes " ") number ++ codes "</title>"
 

@@ -1,4 +1,4 @@
--- What a record comes to where its events are run again.
+-- The result of running a record's events again.
 use Rattle.std.specs.Prelude.{◌≡◌, ◌≢◌, Bool, ℕ, List, ◌++◌, codes, decimal, ⊤}
 use Rattle.irc_line.specs.Lines.{Parts}
 use Rattle.buffer_commands.specs.Settings.{Settings}
@@ -36,18 +36,18 @@ pub record IsReplayOf (input : List ℕ) (v : Verdict) : Type 0 where
 abbrev pub IsReplayFault : List ℕ → ReplayFault → Type 0
 IsReplayFault input e = IsFaultOf spelled_setup FitsSetup spelled_body FitsBody brings_name input e
 
--- how a verdict is told
+-- a verdict in words
 abbrev pub verdict_words : Verdict → List ℕ
 verdict_words Same = codes "same\n"
 verdict_words (Differs line) = codes "differs at " ++ decimal line ++ codes "\n"
 
--- what is wrong with an input, as the program is told; of a reader or a writer that fails nothing is told
+-- what is wrong with an input, as the program reports it; for a reader or a writer that fails nothing is said
 abbrev pub IsRecordFault : List ℕ → RecordFault → Type 0
 IsRecordFault input Read = ⊤
 IsRecordFault input (Replay e) = IsReplayFault input e
 IsRecordFault input Write = ⊤
 
--- what is told of an input that is not read whole
+-- the fault of an input that is not read whole
 abbrev pub record_fault : ReadFault → RecordFault
 record_fault reading.InputTooLong = Replay TooLong
 record_fault reading.Read = Read

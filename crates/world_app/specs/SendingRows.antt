@@ -5,7 +5,7 @@ use Rattle.raft_log.specs.Lists.{item}
 use Rattle.raft_log.specs.Node.{Node}
 use Rattle.world_app.specs.Diagrams.{sent_count}
 
--- what stands in a list of a node, if there is one
+-- the items in a list of a node, if there is one
 abbrev pub items_of : Option (Vec ℕ) → List ℕ
 items_of None = []
 items_of (Some rows) = rows.items
@@ -22,12 +22,12 @@ row_in all node number = item (items_of (item all node)) number
 abbrev pub noted : ℕ → ℕ → List ℕ → List ℕ
 noted row count rows = rows ++ replicate (count - length rows) row
 
--- so many nodes, of which none sent anything
+-- this many nodes, none of which sent anything
 pub record AreEmpty (size : ℕ) (all : List (Vec ℕ)) : Type 0 where
   pub length_is : length all ≡ size
   pub none : (index : ℕ) → rows_at all index ≡ []
 
--- this row is noted of each node for what it sent further
+-- this row is noted for each node for its further messages
 pub record AreNoted {B : Type 0} (row : ℕ) (w : List (Node B)) (old new : List (Vec ℕ)) : Type 0 where
   pub length_is : length new ≡ length old
   pub each : (index : ℕ) → index < length old → rows_at new index ≡ noted row (sent_count w (suc index)) (rows_at old index)

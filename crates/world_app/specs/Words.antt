@@ -15,7 +15,7 @@ role_class Follower = codes "follower"
 role_class Candidate = codes "candidate"
 role_class Leader = codes "leader"
 
--- what is said of a node that takes a role, before its term
+-- the words for a node that takes a role, before its term
 abbrev pub role_words : Role → List ℕ
 role_words Follower = codes "follows in term "
 role_words Candidate = codes "candidate in term "
@@ -51,12 +51,12 @@ deed_word Claim = codes "claim"
 deed_word Apply = codes "apply"
 deed_word Look = codes "look"
 
--- of a delivery nothing, since it has an arrow
+-- none for a delivery, since it has an arrow
 abbrev pub done_word : Deed → List ℕ
 done_word Deliver = []
 done_word deed = deed_word deed
 
--- what is said of an event, before the word of its input
+-- the words for an event, before the word of its input
 abbrev pub happening_front : Happening → List ℕ
 happening_front (Does deed) = []
 happening_front Restarts = codes "restarts"

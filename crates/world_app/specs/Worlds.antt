@@ -1,4 +1,4 @@
--- What an input of events comes to, in a group of nodes of the bouncer that is set up plainly.
+-- The result of an input of events, in a group of nodes of the bouncer with the plain setup.
 use Rattle.std.specs.Prelude.{◌≡◌, ℕ, ◌<◌, List}
 use Rattle.irc_line.specs.Lines.{Parts}
 use Rattle.buffer_commands.specs.Settings.{Settings, plain}
@@ -20,7 +20,7 @@ use Rattle.world_app.specs.declared.run_fault.RunFault.TheVariants.{Refused, Inp
 abbrev pub IsAskable : ℕ → Type 0
 IsAskable n = n < 1000000000
 
--- what is told of an input that is not read whole
+-- the fault of an input that is not read whole
 abbrev pub run_fault : ReadFault → RunFault
 run_fault reading.InputTooLong = InputTooLong
 run_fault reading.Read = Read
@@ -30,11 +30,12 @@ run_fault reading.Memory = Memory
 abbrev pub tower_words : TowerEffect → List ℕ
 tower_words = answer_words (claims_words (fence_words effect_words))
 
--- the text of what comes out of these events, and of what so many nodes of a bouncer that is set up so are then
+-- the text of what comes out of these events, and of the states of this many nodes of a bouncer with this setup
+-- afterwards
 abbrev pub bouncer_text : Settings → ℕ → List (Event TowerBody Parts (List ℕ)) → List ℕ
 bouncer_text setup size events = world_text (tower setup) tower_words (λ line. line) size events
 
--- the same of the bouncer that is set up plainly
+-- the same for the bouncer with the plain setup
 abbrev pub plain_text : ℕ → List (Event TowerBody Parts (List ℕ)) → List ℕ
 plain_text size events = bouncer_text plain size events
 
@@ -44,12 +45,12 @@ pub record IsRunOf (size : ℕ) (input text : List ℕ) : Type 0 where
   pub of_input : AreOf spelled_body FitsBody input events
   pub text_is : text ≡ plain_text size events
 
--- what is told of a text that is none of events
+-- the fault of a text that is none of events
 abbrev pub events_fault : EventsFault → RunFault
 events_fault (events.BadLine number) = BadEvent number
 events_fault events.Memory = Memory
 
--- a bad line that is told of an input is its first that is no event
+-- a bad line that is reported for an input is its first that is no event
 abbrev pub IsBadOf : List ℕ → RunFault → Type 0
 IsBadOf input (Refused size) = Unit {0}
 IsBadOf input InputTooLong = Unit {0}
@@ -58,7 +59,7 @@ IsBadOf input (BadEvent number) = IsFirstBad spelled_body FitsBody input number
 IsBadOf input Write = Unit {0}
 IsBadOf input Memory = Unit {0}
 
--- the faults that only running brings: a bad line, or want of memory
+-- the faults that only running brings: a bad line, or memory that ran out
 abbrev pub IsOfRunning : RunFault → Type 0
 IsOfRunning (Refused size) = ⊥
 IsOfRunning InputTooLong = ⊥

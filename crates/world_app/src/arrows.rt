@@ -43,7 +43,7 @@ fn push_end(out: &mut Vec<u8>, addressee: u8, delivered: u32) -> Result<(), Allo
     out.extend_from_slice(b"'>")
 }
 
-/// Appends the event that delivered a message, which is shown where the arrow is pointed at.
+/// Appends the event that delivered a message, which is shown when the pointer is on the arrow.
 #[tactic(auto, unfolding(crate::specs::Picture::arrow_title))]
 fn push_title(out: &mut Vec<u8>, sender: u8, number: u64) -> Result<(), AllocError>
     ensures { OnOk result (out.new.items ≡ out.old.items ++ arrow_title sender number) }

@@ -15,14 +15,14 @@ use raft_log::NodeId;
 use world_events::{Event, Input};
 use world_run::Cell;
 
-/// To whom a message is, and what it is.
+/// The receiver of a message, and the message's kind.
 #[derive(Clone, Copy)]
 pub struct Delivery {
     pub addressee: u8,
     pub kind: MessageKind,
 }
 
-/// The arrow of the message that the event of this number delivers, where there is one.
+/// The arrow of the message that the event of this number delivers, if there is one.
 pub fn arrow_of<M: Hosted>(
     cells: &[Cell<M>],
     rows: &[Vec<u32>],
@@ -44,7 +44,7 @@ pub fn arrow_of<M: Hosted>(
     })
 }
 
-/// To whom the message of this number is, among those that a node sent, and what it is.
+/// The receiver and the kind of the message of this number, among those that a node sent.
 fn delivery_at<M: Hosted>(cells: &[Cell<M>], sender: NodeId, number: u64) -> Option<Delivery>
     ensures { result ≡ option_map delivery_by (sent_of (item (nodes_in cells.now) sender) number) }
 {
@@ -58,7 +58,7 @@ fn delivery_at<M: Hosted>(cells: &[Cell<M>], sender: NodeId, number: u64) -> Opt
     })
 }
 
-/// The node to which an event happens; 0 where there is no such message.
+/// The node to which an event happens; 0 if there is no such message.
 pub fn node_of<M: Hosted>(cells: &[Cell<M>], event: &Event<M::Command, M::Line, M::Target>) -> u8
     ensures { result ≡ node_of (nodes_in cells.now) event.now }
 {
@@ -69,7 +69,7 @@ pub fn node_of<M: Hosted>(cells: &[Cell<M>], event: &Event<M::Command, M::Line, 
     }
 }
 
-/// The node to which an input happens; 0 where there is no such message.
+/// The node to which an input happens; 0 if there is no such message.
 fn node_in<M: Hosted>(cells: &[Cell<M>], input: &Input<M::Command, M::Line, M::Target>) -> u8
     ensures { result ≡ node_in (nodes_in cells.now) input.now }
 {

@@ -2,7 +2,7 @@
 use crate::kinds::{Happening, MessageKind};
 use raft_log::Role;
 
-/// What a node is, as far as it is drawn.
+/// The state of a node, as far as it is drawn.
 #[derive(Clone, Copy)]
 pub struct NodeView {
     pub role: Role,
@@ -12,7 +12,7 @@ pub struct NodeView {
     pub boot: u64,
 }
 
-/// What an event made of the node to which it happened.
+/// How an event changed the node to which it happened.
 #[derive(Clone, Copy)]
 pub struct Change {
     /// The node's number, from 1.
@@ -27,7 +27,7 @@ pub struct Row {
     /// The event's number, from 1.
     pub number: u32,
     pub happening: Happening,
-    /// None where there is no such node or message.
+    /// None if there is no such node or message.
     pub change: Option<Change>,
 }
 

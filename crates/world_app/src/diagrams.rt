@@ -19,9 +19,9 @@ use std::mem::drop;
 use world_events::Event;
 use world_run::{Cell, Group};
 
-/// The diagram of these events, as they happen in order to so many nodes over new stores.
+/// The diagram of these events, as they happen in order to a group of this size over new stores.
 ///
-/// Of more than 4,294,967,295 events there is none.
+/// More than 4,294,967,295 events have none.
 pub fn diagram_of<M: Hosted>(
     alloc: Global,
     size: GroupSize,
@@ -69,7 +69,7 @@ fn push_arrow<M: Hosted>(
     }
 }
 
-/// The event of this number happens, which has this row.
+/// The event of this number, which gets this row, happens.
 fn row_of<M: Hosted>(
     group: &mut Group<M>,
     number: u32,

@@ -1,4 +1,4 @@
-//! What an event is, and what a message is, as far as they are drawn.
+//! What events and messages are, as far as they are drawn.
 
 /// What an input is.
 #[derive(Clone, Copy, Debug, PartialEq, Eq)]

@@ -12,8 +12,8 @@ use std::alloc::AllocError;
 /// Where the names of the nodes are, from the top.
 const NAME_Y: u64 = 56;
 
-/// Appends a node's lane over these rows, of which this is the last one's number: a name, and a line in the colours of
-/// the roles that the node had.
+/// Appends a node's lane over these rows, the last of which has this number: a name, and a line in the colours of the
+/// roles that the node had.
 #[tactic(auto, unfolding(crate::specs::Picture::lane))]
 pub fn push_lane(out: &mut Vec<u8>, node: u8, last: u32, rows: &[Row]) -> Result<(), AllocError>
     ensures { OnOk result (out.new.items ≡ out.old.items ++ lane last rows.now node) }
@@ -48,7 +48,7 @@ fn push_line(out: &mut Vec<u8>, node: u8, last: u32, rows: &[Row]) -> Result<(),
     push_segment(out, node, role, since, last)
 }
 
-/// The role of a node behind an event, before which it had this role.
+/// The role of a node after an event, given the role before it.
 fn role_behind(node: u8, role: Role, change: Option<Change>) -> Role
     ensures { result ≡ role_behind node role change }
 {
@@ -62,7 +62,7 @@ fn role_behind(node: u8, role: Role, change: Option<Change>) -> Role
     }
 }
 
-/// Appends the line that ends at a row where the role changes, and answers where the line begins that goes on from
+/// Appends the line that ends at a row if the role changes, and returns where the line begins that continues from
 /// there.
 fn push_ended(
     out: &mut Vec<u8>,

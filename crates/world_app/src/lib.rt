@@ -1,8 +1,7 @@
-//! Lists of events, as text and as a drawing, over the nodes of a bouncer.
-//! Stands under bouncer_app.
-//! What `bouncer world` writes is the text of what comes out of the events of its input, and of what the nodes are
-//! then; a record is the same exactly where its lines are those of a run of its events; a drawing has a row for each
-//! event and an arrow for each message that was delivered, as the definition's world has them.
+//! Lists of events, as text and as a drawing, over the nodes of a bouncer. bouncer_app uses it. What `bouncer world`
+//! writes is the text of what comes out of the events of its input, and of the nodes' states afterwards; a record is
+//! the same exactly if its lines are those of a run of its events; a drawing has a row for each event and an arrow for
+//! each message that was delivered, as the definition's world has them.
 #![tactic(auto)]
 
 mod arrows;

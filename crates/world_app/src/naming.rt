@@ -61,7 +61,7 @@ pub fn kind_of<B: Wire>(kind: &Kind<B>) -> MessageKind
     }
 }
 
-/// The sender and the number of the message that an event delivers, also where the node stops.
+/// The sender and the number of the message that an event delivers, even if the node stops.
 pub fn delivery_of<B, L, T>(event: &Event<B, L, T>) -> Option<(NodeId, u64)>
     ensures { result ≡ delivery_of event.now }
 {

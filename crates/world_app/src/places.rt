@@ -1,7 +1,7 @@
 //! Places that count from 1.
 ghost use Rattle.std.specs.Prelude.{◌≡◌, ◌⊎◌, ◌<◌, suc, IfNone, IfSome};
 
-/// The index of what has this number, from 1, among so many.
+/// The index of the item with this number, from 1, in a list of this length.
 pub fn index_of(number: u64, count: usize) -> Option<usize>
     ensures some { IfSome result (λ index. (number ≡ suc index) × (index < count)) }
     ensures none { IfNone result ((number ≡ 0) ⊎ (count < number)) }

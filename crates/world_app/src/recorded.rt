@@ -1,4 +1,4 @@
-//! Records that are read whole, and the words of what they come to.
+//! Records that are read whole, and the words of their verdicts.
 ghost use Rattle.std.specs.Prelude.{◌≡◌, ◌≢◌, IfErr, IfOk, IfSome};
 ghost use Rattle.std.specs.Io.KnownBytes.{Appends};
 ghost use Rattle.world_app.specs.Replays.{IsRecordFault, IsReplayOf, verdict_words};
@@ -11,11 +11,10 @@ use std::alloc::{AllocError, Global};
 use std::io::{Read, Write};
 use whole_input::read_whole;
 
-/// Reads a record whole, runs its events again, and writes what its lines come to against those of the
-/// run: `same`, or the number of the first line that differs.
+/// Reads a record whole, runs its events again, and writes how its lines compare with those of the run: `same`, or the
+/// number of the first line that differs.
 ///
-/// Nothing is written before the last event has happened. When `Read`, `Write` and `Memory` come is no
-/// contract's matter.
+/// Nothing is written before the last event has happened. No contract says when `Read`, `Write` and `Memory` come.
 pub fn replay_record<R: Read, W: Write>(
     alloc: Global,
     input: &mut R,

@@ -8,11 +8,10 @@ use records::{ReplayFault, Verdict, parse_record, verdict_of};
 use setup_spelling::WireSetup;
 use std::alloc::Global;
 
-/// Runs the events of a record file over its setup and its number of nodes, and compares what comes out
-/// with its lines behind `outputs`.
+/// Runs the events of a record file over its setup and its number of nodes, and compares what comes out with its lines
+/// after `outputs`.
 ///
-/// A run that holds beside its output no other copy of one: the recorded lines are compared where they
-/// stand.
+/// Only the run's own output is held besides the input: the recorded lines are compared in place.
 pub fn replay(alloc: Global, input: &[u8]) -> Result<Verdict, ReplayFault>
     ensures verdict { IfOk result (IsReplayOf input.now) }
     ensures bad { IfErr result (IsReplayFault input.now) }

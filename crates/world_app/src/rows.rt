@@ -19,7 +19,7 @@ const NONE_X: u64 = 158;
 /// How far beside its lane a text begins.
 const BESIDE: u64 = 20;
 
-/// How far below the middle of its row a text stands.
+/// How far below the middle of its row a text is.
 const BELOW: u64 = 4;
 
 /// Appends rows.
@@ -120,7 +120,7 @@ fn push_boot(out: &mut Vec<u8>, before: &NodeView, after: &NodeView) -> Result<(
     push_part(out, b"boot", b"boot ", after.boot)
 }
 
-/// Appends the role that a node takes, where it is another one or in another term.
+/// Appends the role that a node takes, if it is another one or in another term.
 #[tactic(auto, unfolding(crate::specs::Picture::role_part))]
 fn push_role(out: &mut Vec<u8>, before: &NodeView, after: &NodeView) -> Result<(), AllocError>
     ensures { OnOk result (out.new.items ≡ out.old.items ++ role_part before.now after.now) }
@@ -136,7 +136,7 @@ fn push_role(out: &mut Vec<u8>, before: &NodeView, after: &NodeView) -> Result<(
     )
 }
 
-/// Appends the place up to which a node commits now, where it is a later one.
+/// Appends the place up to which a node commits now, if it is a later one.
 #[tactic(auto, unfolding(crate::specs::Picture::commit_part))]
 fn push_commit(out: &mut Vec<u8>, before: &NodeView, after: &NodeView) -> Result<(), AllocError>
     ensures { OnOk result (out.new.items ≡ out.old.items ++ commit_part before.now after.now) }

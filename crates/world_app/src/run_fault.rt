@@ -22,7 +22,7 @@ pub enum RunFault {
     /// The output could not be written; some of it may have been.
     #[error("Write")]
     Write,
-    /// There was no memory.
+    /// Memory ran out.
     #[error("Memory")]
     Memory,
 }

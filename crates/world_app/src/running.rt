@@ -11,7 +11,7 @@ use std::alloc::{AllocError, Global};
 use world_events::Event;
 use world_lines::world_text;
 
-/// The text of what comes out of events, and of what the nodes are then.
+/// The text of what comes out of events, and of the nodes' states afterwards.
 pub fn events_text(
     alloc: Global,
     size: GroupSize,
@@ -22,7 +22,7 @@ pub fn events_text(
 {
     match run_bouncers(alloc, size.value(), setup, events) {
         Ok(world) => world_text(alloc, events, &world),
-        // The size is one that groups have, so memory is what was wanting.
+        // The size is one that groups have, so memory ran out.
         Err(_) => Err(AllocError),
     }
 }

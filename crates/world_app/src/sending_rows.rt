@@ -9,7 +9,7 @@ use raft_log::NodeId;
 use std::alloc::{AllocError, Global};
 use world_run::Cell;
 
-/// The rows of so many nodes that sent nothing yet.
+/// The rows of this many nodes that sent nothing yet.
 pub fn no_rows(alloc: Global, size: usize) -> Result<Vec<Vec<u32>>, AllocError>
     ensures { IfOk result (λ rows. AreEmpty size rows.items) }
 {
@@ -20,7 +20,7 @@ pub fn no_rows(alloc: Global, size: usize) -> Result<Vec<Vec<u32>>, AllocError>
     Ok(rows)
 }
 
-/// The row in which a node sent its message of this number, from 1, where it did.
+/// The row in which a node sent its message of this number, from 1, if it did.
 pub fn sending_row(rows: &[Vec<u32>], sender: NodeId, number: u64) -> Option<u32>
     ensures { result ≡ row_in rows.now sender number }
 {
@@ -29,7 +29,7 @@ pub fn sending_row(rows: &[Vec<u32>], sender: NodeId, number: u64) -> Option<u32
     Some(rows[node][index])
 }
 
-/// Notes of each node that what it sent further was sent in this row.
+/// Notes for each node that its further messages were sent in this row.
 pub fn note_all<M: Hosted>(
     rows: &mut Vec<Vec<u32>>,
     cells: &[Cell<M>],

@@ -5,10 +5,10 @@ ghost use Rattle.world_app.specs.Worlds.{IsAskable};
 
 use recorder::read_number;
 
-/// The least number that has ten digits.
+/// The least number with ten digits.
 const PAST_DIGITS: u64 = 1_000_000_000;
 
-/// The number of at most nine decimal digits, without a zero before others, that a word is.
+/// The value of a word of at most nine decimal digits, without a leading zero.
 pub fn size_of(word: &str) -> Option<u32>
     ensures { ReadsAs decimal IsAskable word.now result }
 {

@@ -11,10 +11,10 @@ use crate::rows::push_rows;
 use crate::style::{OPENING, STYLE};
 use std::alloc::{AllocError, Global};
 
-/// How far the picture goes on beside the last lane.
+/// How far the picture extends beside the last lane.
 const BESIDE: u64 = 180;
 
-/// How far the picture goes on below the last row.
+/// How far the picture extends below the last row.
 const BELOW: u64 = 40;
 
 /// The picture of a diagram in SVG: its lanes, arrows over them, and rows over both.
@@ -70,7 +70,7 @@ fn push_style(out: &mut Vec<u8>) -> Result<(), AllocError>
     out.extend_from_slice(STYLE)
 }
 
-/// Appends the lanes of so many nodes.
+/// Appends the lanes of this many nodes.
 fn push_lanes(out: &mut Vec<u8>, size: u8, last: u32, rows: &[Row]) -> Result<(), AllocError>
     ensures { OnOk result (out.new.items ≡ out.old.items
         ++ flat_map (lane last rows.now) (range_from 1 size)) }

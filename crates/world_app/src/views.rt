@@ -1,4 +1,4 @@
-//! What the nodes are, as far as it is drawn.
+//! The states of the nodes, as far as they are drawn.
 ghost use Rattle.std.specs.Prelude.{◌≡◌, [], option_map};
 ghost use Rattle.raft_log.specs.Lists.{item};
 ghost use Rattle.raft_log.specs.Seen.{seen};
@@ -12,7 +12,7 @@ use raft_log::NodeState;
 use wire_bytes::Wire;
 use world_run::Cell;
 
-/// What the node of this number is, where there is one.
+/// The state of the node of this number, if there is one.
 pub fn view_at<M: Hosted>(cells: &[Cell<M>], node: u8) -> Option<NodeView>
     ensures { result ≡ option_map view_of (item (nodes_in cells.now) node) }
 {
@@ -20,7 +20,7 @@ pub fn view_at<M: Hosted>(cells: &[Cell<M>], node: u8) -> Option<NodeView>
     Some(view_of(cells[index].state()))
 }
 
-/// What a node is.
+/// The state of a node.
 fn view_of<B: Wire>(state: &NodeState<B>) -> NodeView
     ensures { result ≡ view_of (seen state.now []) }
 {
@@ -33,7 +33,7 @@ fn view_of<B: Wire>(state: &NodeState<B>) -> NodeView
     }
 }
 
-/// What an event made of a node that was this before it and is that behind it.
+/// How an event changed a node that was this before it and is that after it.
 pub fn change_of(node: u8, before: Option<NodeView>, after: Option<NodeView>) -> Option<Change>
     ensures { result ≡ change_of node before after }
 {

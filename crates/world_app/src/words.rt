@@ -17,7 +17,7 @@ pub fn role_class(role: Role) -> &'static [u8]
     }
 }
 
-/// What is said of a node that takes a role, before its term.
+/// The words for a node that takes a role, before its term.
 pub fn role_words(role: Role) -> &'static [u8]
     ensures { result.now ≡ role_words role }
 {
@@ -55,7 +55,7 @@ pub fn happening_class(happening: Happening) -> &'static [u8]
     }
 }
 
-/// What is said of an event, before the word of its input.
+/// The words for an event, before the word of its input.
 pub fn happening_front(happening: Happening) -> &'static [u8]
     ensures { result.now ≡ happening_front happening }
 {
@@ -67,7 +67,7 @@ pub fn happening_front(happening: Happening) -> &'static [u8]
     }
 }
 
-/// The word of an event's input, where it has one.
+/// The word of an event's input, if it has one.
 pub fn happening_deed(happening: Happening) -> &'static [u8]
     ensures { result.now ≡ deed_of happening }
 {
@@ -79,7 +79,7 @@ pub fn happening_deed(happening: Happening) -> &'static [u8]
     }
 }
 
-/// The word of an input that was done: of a delivery none, since it has an arrow.
+/// The word of an input that was done: none for a delivery, since it has an arrow.
 fn done_word(deed: Deed) -> &'static [u8]
     ensures { result.now ≡ done_word deed }
 {

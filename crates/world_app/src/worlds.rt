@@ -16,11 +16,11 @@ use std::alloc::Global;
 use std::io::{Read, Write};
 use whole_input::read_whole;
 
-/// Reads an input whole, runs its events over so many nodes of a bouncer that is set up plainly, and
-/// writes what came out of each event and then what the nodes are.
+/// Reads an input whole, runs its events over this many nodes of a bouncer with the plain setup, and writes what came
+/// out of each event and then the states of the nodes.
 ///
-/// Nothing is read where no group has that size, and nothing is written before the last event has
-/// happened. When `Read`, `Write` and `Memory` come is no contract's matter.
+/// Nothing is read if no group has that size, and nothing is written before the last event has
+/// happened. No contract says when `Read`, `Write` and `Memory` come.
 pub fn world<R: Read, W: Write>(
     alloc: Global,
     size: u32,
@@ -46,7 +46,7 @@ pub fn world<R: Read, W: Write>(
     output.flush().map_err(|_| RunFault::Write)
 }
 
-/// The size of a group, where one has so many nodes.
+/// The size of a group of this many nodes, if there is one.
 fn group_size(size: u32) -> Option<GroupSize>
     ensures value { IfSome result (λ group. group ≡ size) }
     ensures allowed { IsSome result ↔ IsGroupSize size }
@@ -57,7 +57,7 @@ fn group_size(size: u32) -> Option<GroupSize>
     GroupSize::new(size as u8)
 }
 
-/// The text of what comes out of the events of an input, and of what the nodes are then.
+/// The text of what comes out of the events of an input, and of the nodes' states afterwards.
 fn run_text(alloc: Global, size: GroupSize, input: &[u8]) -> Result<Vec<u8>, RunFault>
     ensures ok { IfOk result (λ text. IsRunOf size input.now text.items) }
     ensures bad { IfErr result (IsBadOf input.now) }

@@ -1,4 +1,4 @@
--- What stands at a place begins what is left from there.
+-- The item at a place begins what is left from there.
 use Rattle.std.proofs.Common.{◌≡◌, ℕ, zero, suc, ◌≤◌, inl, inr, List, [], ◌∷◌, length, drop, refl}
 use Rattle.std.proofs.lemmas.Option.{slice_get_cases}
 use Rattle.std.specs.Prelude.{Some, None, slice_get}

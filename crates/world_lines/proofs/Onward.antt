@@ -10,7 +10,7 @@ use Rattle.world_lines.proofs.Fronts.{front_is}
 
 -- Over the words of effects and the spelling of what is played
 module _ {B L T E P : Type 0} (words : E → List ℕ) (spelled : P → List ℕ) where
-  -- the lines of an outcome were written: those of the outcomes behind it are left
+  -- the lines of an outcome were written: those of the outcomes after it are left
   pub after_outcome : (es : List (Event B L T)) (outs : List (Outcome E P)) (k node : ℕ) (event : Event B L T) (outcome : Outcome E P) (out new whole : List ℕ)
       → k < length es → event ≡ get_or es k event → slice_get outs k ≡ Some outcome → node ≡ named_node event → new ≡ out ++ outcome_lines words spelled (k + 1) node outcome
       → out ++ outcomes_lines words spelled (suc k) (drop k es) (drop k outs) ≡ whole → new ++ outcomes_lines words spelled (suc (k + 1)) (drop (k + 1) es) (drop (k + 1) outs) ≡ whole

@@ -12,7 +12,7 @@ use Rattle.world_lines.specs.OutputText.{node_lines}
 use Rattle.world_lines.proofs.Fronts.{front_is, none_behind}
 
 module _ {B : Type 0} where
-  -- the line of the node of this number was written: those of the nodes behind it are left
+  -- the line of the node of this number was written: those of the nodes after it are left
   pub after_node : (nodes : List (Node B)) (number id : ℕ) (state : NodeState B) (out new whole : List ℕ) → 1 ≤ number → id ≡ number → IsNodeOf nodes number state → new ≡ out ++ node_line id (seen state [])
       → out ++ node_lines number (drop (number - 1) nodes) ≡ whole → new ++ node_lines (number + 1) (drop (number + 1 - 1) nodes) ≡ whole
   after_node nodes zero id state out new whole pos same is e h = absurd (omega (arith, pos))

@@ -1,4 +1,4 @@
--- What comes out as the code has it and as the definitions have it has one text.
+-- What comes out as the code has it and as the definitions have it gives one text.
 use Rattle.std.proofs.Common.{◌≡◌, ℕ, zero, suc, ◌≤◌, List, [], ◌∷◌, length, ⊎_elim, refl, ap, ◌∙◌, arith}
 use Rattle.std.proofs.lemmas.List.{length-set, length-replicate}
 use Rattle.std.specs.Prelude.{Option, Some, None}
@@ -32,7 +32,7 @@ module _ (M : Machine) (words : M.Effect → List ℕ) (spelled : M.Played → L
   same_outs number (e ∷ es) [] = refl
   same_outs number (e ∷ es) (out ∷ outs) = rw (same_out number (named_node e) out, same_outs (suc number) es outs) refl
 
-  -- what is told of a world is the text of its events
+  -- the text of a world is the text of its events
   pub told : {Setup : Type 0} (es : List (Event M.Body M.Line M.Target)) (w : WorldParts Setup M.Body M.Effect M.Played) (text : List ℕ)
       → text ≡ parts_text words spelled es w → IsTextOf M words spelled es w text
   told es w text h = λ size is. h ∙ rw (same_outs 1 es w.outs, is.outs, is.nodes) refl

@@ -1,4 +1,4 @@
--- The same text, of what comes out as the code has it.
+-- The same text, for what comes out as the code has it.
 use Rattle.std.specs.Prelude.{◌≡◌, ℕ, suc, List, [], ◌∷◌, ◌++◌}
 use Rattle.raft_node.specs.Machine.{Machine}
 use Rattle.world_events.specs.declared.event.Event.{Event}
@@ -23,11 +23,11 @@ module _ {E P : Type 0} (words : E → List ℕ) (spelled : P → List ℕ) wher
   outcomes_lines number (e ∷ es) [] = []
   outcomes_lines number (e ∷ es) (out ∷ outs) = outcome_lines number (named_node e) out ++ outcomes_lines (suc number) es outs
 
-  -- what came out, and then what the nodes are
+  -- what came out, and then the states of the nodes
   abbrev pub parts_text : {Setup B L T : Type 0} → List (Event B L T) → WorldParts Setup B E P → List ℕ
   parts_text es w = outcomes_lines 1 es w.outs ++ node_lines 1 w.nodes
 
--- Where this is the world of these events, the text is theirs.
+-- If this is the world of these events, the text is theirs.
 abbrev pub IsTextOf : {Setup : Type 0} (M : Machine) → (M.Effect → List ℕ) → (M.Played → List ℕ)
     → List (Event M.Body M.Line M.Target) → WorldParts Setup M.Body M.Effect M.Played → List ℕ → Type 0
 IsTextOf M words spelled es w text = (size : ℕ) → IsWorld M size es w → text ≡ world_text M words spelled size es

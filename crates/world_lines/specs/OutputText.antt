@@ -1,4 +1,4 @@
--- What comes out of a list of events, and what the nodes are then, as lines of text.
+-- What comes out of a list of events, and the nodes' states afterwards, as lines of text.
 use Rattle.std.specs.Prelude.{ℕ, suc, List, [], ◌∷◌, ◌++◌, length, flat_map, codes, decimal}
 use Rattle.raft_log.specs.Node.{Node}
 use Rattle.raft_node.specs.Machine.{Machine}
@@ -16,7 +16,7 @@ use Rattle.world_run.specs.Told.{events_of}
 use Rattle.world_run.specs.World.{run, outputs}
 
 module _ {B L T : Type 0} where
-  -- the node that an input names; of a delivery the sender
+  -- the node that an input names; for a delivery the sender
   abbrev pub named_in : Input B L T → ℕ
   named_in (Timeout n) = n
   named_in (Beat n) = n
@@ -35,7 +35,7 @@ module _ {B L T : Type 0} where
   named_node (Restart n) = n
   named_node (StopIn x after) = named_in x
 
--- why a node stayed as it was; the numbers 1 and 2 are of nodes that are down, which no event of a list finds
+-- why a node was unchanged; the numbers 1 and 2 are for nodes that are down, which no event of a list finds
 abbrev pub refusal_words : Refusal → List ℕ
 refusal_words LogFull = codes "3 LogFull"
 refusal_words TermsSpent = codes "4 TermsSpent"
@@ -51,7 +51,7 @@ front number node = decimal number ++ 32 ∷ decimal node ++ 32 ∷ []
 abbrev pub none_line : ℕ → List ℕ
 none_line number = decimal number ++ codes " none" ++ 10 ∷ []
 
--- a node that stayed as it was, and why
+-- a node that was unchanged, and why
 abbrev pub refused_line : ℕ → ℕ → Refusal → List ℕ
 refused_line number node refusal = front number node ++ codes "refused " ++ refusal_words refusal ++ 10 ∷ []
 
@@ -100,6 +100,6 @@ module _ (M : Machine) (words : M.Effect → List ℕ) (spelled : M.Played → L
   outs_lines number (e ∷ es) [] = []
   outs_lines number (e ∷ es) (out ∷ outs) = out_lines number (named_node e) out ++ outs_lines (suc number) es outs
 
-  -- of a group of so many nodes what came out of these events, numbered from 1, and then what the nodes are
+  -- for a group of this size, what came out of these events, numbered from 1, and then the states of the nodes
   abbrev pub world_text : ℕ → List (Event M.Body M.Line M.Target) → List ℕ
   world_text size es = outs_lines 1 es (outputs M size (events_of M es)) ++ node_lines 1 (run M (events_of M es) (start size))

@@ -1,6 +1,5 @@
-//! What comes out of a list of events, and what the nodes are then, as lines of text.
-//! Stands under records and world_app.
-//! The text is exactly the one that the definitions give of these events.
+//! What comes out of a list of events, and the nodes' states afterwards, as lines of text. records
+//! and world_app use it. The text is exactly the one that the definitions give for these events.
 #![tactic(auto)]
 
 mod named;

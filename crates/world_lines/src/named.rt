@@ -5,7 +5,7 @@ ghost use Rattle.world_lines.specs.OutputText.{named_in, named_node};
 use raft_log::NodeId;
 use world_events::{Event, Input};
 
-/// The node that an event names; of a delivery the sender.
+/// The node that an event names; for a delivery the sender.
 pub fn named_by<B, L, T>(event: &Event<B, L, T>) -> NodeId
     ensures { result ≡ named_node event.now }
 {

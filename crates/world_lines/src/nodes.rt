@@ -1,4 +1,4 @@
-//! What the nodes of a world are, as lines.
+//! The states of the nodes of a world, as lines.
 ghost use Rattle.std.specs.Prelude.{◌≡◌, ◌++◌, OnOk};
 ghost use Rattle.world_lines.specs.OutputText.{node_lines};
 

@@ -115,7 +115,7 @@ fn push_look(
     Ok(out.push(b'\n')?)
 }
 
-/// Appends a line that was played, by its spelling.
+/// Appends a line that was played.
 fn push_played(
     out: &mut Vec<u8>,
     number: u64,
@@ -127,11 +127,12 @@ fn push_played(
 {
     push_front(out, number, node)?;
     out.extend_from_slice(b"line ")?;
+    // cut to what fits in a line of IRC
     out.extend_from_slice(printed(spelling))?;
     Ok(out.push(b'\n')?)
 }
 
-/// Appends that a node stayed as it was, and why.
+/// Appends that a node was unchanged, and why.
 fn push_refused(
     out: &mut Vec<u8>,
     number: u64,

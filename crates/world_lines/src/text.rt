@@ -12,8 +12,8 @@ use std::alloc::{AllocError, Global};
 use world_events::Event;
 use world_run::World;
 
-/// What came out of the events of a world that was run over them, and then what its nodes are. Of a
-/// world that is not that of these events the text says nothing.
+/// What came out of the events of a world that was run over them, and then the states of its nodes.
+/// For a world that does not come from these events the text says nothing.
 pub fn world_text<M>(
     alloc: Global,
     events: &[Event<M::Command, M::Line, M::Target>],

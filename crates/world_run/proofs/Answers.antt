@@ -101,7 +101,7 @@ module _ (M : Machine) where
 
   -- requests
 
-  -- what comes of a body that is asked for, by whether it may be
+  -- the result of asking for a body, by whether it may be asked for
   abbrev turn_by : ℕ → Node M.Body → M.Body → Bool → Turn M
   turn_by i s body b = if b then (if finds_leader s s.leader then asks M i s body else refused M s NoLeader) else refused M s BadOrigin
 
@@ -167,7 +167,7 @@ module _ (M : Machine) where
             let f : Fine M owner boots l (stepper M w e) s = fine.0.each (stepper M w e) s p in
             all_join P _ _ (step_all (stepper M w e) s _ f (own_step M (length w) (stepper M w e) s f.lives (own_of M w e))) (rest _ more)
 
-  -- what holds of each effect that the agreed list brings about holds of each that leaves
+  -- what holds for each effect that the agreed list brings about holds for each that leaves
   pub leaves_of_agreed : (size : ℕ) (es : List (Event M)) (P : M.Effect → Type 0) → All P (all_effects M.effects (history (agreed M size es))) → All P (left M size es)
   leaves_of_agreed size es P h = let w : Whole M size es = whole M size es in outs_all w.owner w.boots (agreed M size es) P h es (start size) w.fine
 

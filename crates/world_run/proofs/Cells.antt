@@ -1,4 +1,4 @@
--- Groups of nodes of which one changes.
+-- Groups of nodes one of which changes.
 use Rattle.std.proofs.Common.{◌≡◌, ℕ, zero, suc, ◌+◌, ◌-◌, ◌<◌, ◌≤◌, List, [], ◌∷◌, ◌++◌, length, take, replicate, get_or, set, option_map, ◌⊎◌, inr, ⊎_elim, refl, sym, ap, ◌∙◌, subst, arith}
 use Rattle.std.proofs.lemmas.List.{map-set, map-append, length-set, length-map, length-append, replicate-append-replicate}
 use Rattle.std.proofs.lemmas.Option.{slice_get-map, slice_get-get_or}
@@ -134,7 +134,7 @@ module _ (M : Machine) {Setup Hosted Store : Type 0} where
         comes = ap (λ (s : Option (Node M.Body)). world.out_by M (nodes_in cells) i o s) (sym none);
       }
 
-  -- a call that did not fail made one of the nodes another state of it
+  -- a call that did not fail changed the state of one of the nodes
   pub group_after : {E : Type 0} (o : Own M) (setup : Setup) (size i : ℕ) (cells : List (CellParts Setup Hosted Store M.Body)) (c new : CellParts Setup Hosted Store M.Body) (r : Result (Outcome M.Effect M.Played) E)
       → IsGroup setup size cells → (i ≡ 0 → ⊥) → IsCell setup size i c → IfOk r (HasOwned M o c new) → IfOk r (λ _. IsGroup setup size (set cells (i - 1) new))
   group_after o setup size i cells c new (Ok out) g pos is h = group_with setup size i cells c new g pos is h.still_up

@@ -15,7 +15,7 @@ use Rattle.world_run.specs.Handing.{hands_by, handed_in, IsHandedOf}
 use Rattle.world_run.specs.Told.{outs_of}
 use Rattle.world_run.specs.World.{hands, hand_of, left_of}
 
--- where none of what came out is left, all of it is told
+-- if none of what came out is left, all of it is listed
 pub all_is_told :
     {E P : Type 0} (class : E → Class Parts) (outs : List (Outcome E P)) (k : ℕ) (lines all : List (ℕ × Parts)) →
     length outs ≤ k → lines ++ handed_in class (drop k outs) ≡ all → lines ≡ all
@@ -31,11 +31,11 @@ abbrev numbered : List Handed → List (ℕ × Parts)
 numbered hands = map (λ h. (h.0.0, h.1)) hands
 
 module _ {E L : Type 0} (class : E → Class Parts) (now : L → Parts) where
-  -- these, where each line is read through what holds it
+  -- these, with each line read through its holder
   abbrev told : List (ℕ × L) → List (ℕ × Parts)
   told lines = map (λ h. (h.0, now h.1)) lines
 
-  -- an effect that is handed upstream is told, and is not to come any more
+  -- an effect that is handed upstream is listed, and no longer to come
   pub hand_told : (es : List E) (k : ℕ) (e : E) (at : Class L) (id : SessionId) (number : ℕ) (line : L) (old new : List (ℕ × L)) (all : List (ℕ × Parts))
       → k < length es → e ≡ get_or es k e → class_map now at ≡ class e → at ≡ Hand id number line → new ≡ old ++ (number, line) ∷ []
       → told old ++ hands_by class (drop k es) ≡ all → told new ++ hands_by class (drop (k + 1) es) ≡ all
@@ -53,7 +53,7 @@ module _ {E L : Type 0} (class : E → Class Parts) (now : L → Parts) where
   no_hand (Rejoin id line) other = refl
   no_hand Nowhere other = refl
 
-  -- another effect has nothing to tell
+  -- another effect lists nothing
   pub none_told : (es : List E) (k : ℕ) (e : E) (at : Class L) (old new : List (ℕ × L)) (all : List (ℕ × Parts))
       → k < length es → e ≡ get_or es k e → class_map now at ≡ class e → ((id : SessionId) (number : ℕ) (line : L) → at ≡ Hand id number line → ⊥) → new ≡ old
       → told old ++ hands_by class (drop k es) ≡ all → told new ++ hands_by class (drop (k + 1) es) ≡ all
@@ -64,7 +64,7 @@ module _ {E L : Type 0} (class : E → Class Parts) (now : L → Parts) where
       ∙ (ap (λ (l : List E). told old ++ hands_by class l) (sym (first_of es k e lt is)) ∙ was))
 
   module _ {P : Type 0} where
-    -- the effects that left are told, and are not to come any more
+    -- the effects that left are listed, and no longer to come
     pub left_told : (outs : List (Outcome E P)) (k : ℕ) (o : Outcome E P) (place : ℕ) (effects : Vec E Global) (seen : List E) (old mid new : List (ℕ × L)) (all : List (ℕ × Parts))
         → k < length outs → o ≡ get_or outs k o → o ≡ Left place effects → seen ≡ effects.items → told mid ≡ told old ++ hands_by class seen → new ≡ mid
         → told old ++ handed_in class (drop k outs) ≡ all → told new ++ handed_in class (drop (k + 1) outs) ≡ all
@@ -83,7 +83,7 @@ module _ {E L : Type 0} (class : E → Class Parts) (now : L → Parts) where
     none_left (Refused refusal) outs other = refl
     none_left Missing outs other = refl
 
-    -- where no effects left there is nothing to tell
+    -- if no effects left there is nothing to list
     pub rest_told : (outs : List (Outcome E P)) (k : ℕ) (o : Outcome E P) (old new : List (ℕ × L)) (all : List (ℕ × Parts))
         → k < length outs → o ≡ get_or outs k o → ((place : ℕ) (effects : Vec E Global) → o ≡ Left place effects → ⊥) → new ≡ old
         → told old ++ handed_in class (drop k outs) ≡ all → told new ++ handed_in class (drop (k + 1) outs) ≡ all

@@ -19,7 +19,7 @@ use Rattle.world_run.specs.Told.{delivered, doing_of, input_of, told_act}
 use Rattle.world_run.specs.World as world
 
 module _ (M : Machine) where
-  -- what is done is the act of this node, and nothing is where there is no such node
+  -- what is done is the act of this node, and nothing is if there is no such node
   abbrev IsDoing : List (Node M.Body) → ℕ → Act M → Option (Doing M.Body M.Line M.Target) → Type 0
   IsDoing w i act None = item w i ≡ None
   IsDoing w i act (Some d) = (i ≡ d.node) × (act ≡ told_act M d.act)
@@ -88,7 +88,7 @@ module _ (M : Machine) where
     restart_happens : (i : ℕ) (old new : List (CellParts Setup Hosted Store M.Body)) (out : Outcome M.Effect M.Played) → HasOwnedAt M i Restarts old new out → HasHappened M (Restart i) old new out
     restart_happens i old new out h = record { nodes = h.nodes; comes = h.comes }
 
-    -- the same of calls, which may have failed, by the cells that were read
+    -- the same for calls, which may have failed, by the cells that were read
     pub input_comes : {E : Type 0} (x : Input M.Body M.Line M.Target) (e : Event M.Body M.Line M.Target) (o : Option (Doing M.Body M.Line M.Target)) (d : Doing M.Body M.Line M.Target) (read old new : List (CellParts Setup Hosted Store M.Body)) (r : Result (Outcome M.Effect M.Played) E)
         → e ≡ Does x → read ≡ old → o ≡ doing_of (nodes_in read) x → o ≡ Some d → IfOk r (HasOwnedAt M d.node (Acts (told_act M d.act)) old new) → IfOk r (HasHappened M e old new)
     input_comes x e o d read old new (Ok out) is same told at h =

@@ -81,7 +81,7 @@ item_with_other w (suc j) zero x ne = refl
 item_with_other w (suc j) (suc i) x ne = set_other w j i x (λ e. ne (ap suc e))
 
 module _ (M : Machine) (owner : ℕ → Option ℕ) (boots : ℕ → ℕ) (l : List (Entry M.Body)) where
-  -- what holds of each node at every moment, l being the agreed list
+  -- what holds for each node at every moment, l being the agreed list
   pub record Fine (i : ℕ) (s : Node M.Body) : Type 0 where
     pub applied_in : s.applied ≤ s.commit
     pub commit_in : s.commit ≤ length s.log
@@ -117,7 +117,7 @@ module _ (M : Machine) (owner : ℕ → Option ℕ) (boots : ℕ → ℕ) (l : L
     abbrev sum : ℕ → ℕ
     sum k = sum_at M.effects t l k
 
-    -- how many are still to leave, by where the node is
+    -- how many are still to leave, by the node's place
     record Bound (s : Node M.Body) (c : ℕ) : Type 0 where
       earlier : s.boot < b → c ≤ total
       now : s.boot ≡ b → c + sum s.applied ≤ total
@@ -130,7 +130,7 @@ module _ (M : Machine) (owner : ℕ → Option ℕ) (boots : ℕ → ℕ) (l : L
     out_of_none : (u : Turn M) → effects_of u.out ≡ [] → count t (effects_of u.out) ≡ 0
     out_of_none u e = ap (count t) e
 
-    -- of another run nothing leaves
+    -- nothing of another run leaves
     out_none : (j : ℕ) (s : Node M.Body) (u : Turn M) → Fine j s → Step M j s u → ((j ≡ i) × (s.boot ≡ b) → ⊥) → count t (effects_of u.out) ≡ 0
     out_none j s u f (InRun (GoesOn g e)) ne = out_of_none u e
     out_none j s u f (InRun (Applied x lt at e)) ne =

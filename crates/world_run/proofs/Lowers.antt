@@ -21,7 +21,7 @@ use Rattle.agreement.proofs.Ruled as ruled
 use Rattle.agreement.specs.Laws.{longer, longest_now, IsAmong}
 
 module _ (M : Machine) where
-  -- a core input by which the node becomes what its turn comes to; what it brings is no refused turn's
+  -- a core input by which the node becomes the result of its turn; a refused turn brings nothing
   pub record Low (n i : ℕ) (w : List (Node M.Body)) (K : M.Body → Type 0) (s : Node M.Body) (t : Turn M) : Type 0 where
     pub by : core.Input M.Body
     pub actor_is : core.actor w by ≡ i

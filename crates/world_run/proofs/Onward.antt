@@ -72,7 +72,7 @@ module _ (M : Machine) {Setup Hosted Store : Type 0} where
 no_refusal : {A : Type 0} (n : ℕ) → (let r : Result A WorldFault = Err Memory in r) ≡ Err (Refused n) → ⊥
 no_refusal n h = absurd cc
 
--- who answers for want of memory, or answers a world, refuses no size, and has been asked for one that groups have
+-- a call that runs out of memory, or returns a world, refuses no size, and was asked for one that groups have
 pub memory_is_no_refusal : {A : Type 0} (r : Result A WorldFault) (n : ℕ) → IsGroupSize n → r ≡ Err Memory → (r ≡ Err (Refused n)) ↔ (IsGroupSize n → ⊥)
 memory_is_no_refusal r n allowed e = ((λ f. absurd (no_refusal n (sym e ∙ f))), λ no. absurd (no allowed))
 

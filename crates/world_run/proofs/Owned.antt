@@ -1,4 +1,4 @@
--- What a node's calls come to, with all that the node sent.
+-- The result of a node's calls, with all that the node sent.
 use Rattle.std.proofs.Common.{◌≡◌, ℕ, zero, suc, true, false, List, [], ◌++◌, length, take, append-nil, refl, sym, ap, ◌∙◌, subst, arith}
 use Rattle.std.specs.Prelude.{None, Result, Ok, Err}
 use Rattle.raft_log.specs.declared.message.Message.{Message}

@@ -101,7 +101,7 @@ module _ {A : Type 0} where
         cond_both (k x) (x ∷ filter k xs) (filter k xs) Keyed
         (λ e. ((i, b, h x e), keyed_kept i b k xs h)) (λ e. keyed_kept i b k xs h)
 
-    -- Where of each key no more items pass in one list than in another, no more pass at all
+    -- If for each key no more items pass in one list than in another, no more pass at all
     module _ (unique : (x : A) (i b j d : ℕ) → key i b x ≡ true → key j d x ≡ true → (i ≡ j) × (b ≡ d)) (test : A → Bool) where
       abbrev of_key : ℕ → ℕ → A → Bool
       of_key i b x = test x && key i b x

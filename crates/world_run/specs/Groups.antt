@@ -1,4 +1,4 @@
--- The nodes of a world as the code has them, and what comes of events.
+-- The nodes of a world as the code has them, and what events do.
 use Rattle.std.specs.Prelude.{◌≡◌, ℕ, suc, List, [], ◌∷◌, ◌++◌, length, map, None, Some}
 use Rattle.raft_log.specs.declared.message.Message.{Message}
 use Rattle.raft_log.specs.declared.node_state.NodeState.{NodeState}
@@ -92,7 +92,8 @@ module _ (M : Machine) where
       pub nodes : nodes_in new ≡ world.happens M (nodes_in old) (event_of M e)
       pub comes : out_of M out ≡ world.out_of M (nodes_in old) (event_of M e)
 
-  -- The world is that of the definitions after these events, of so many nodes over new stores, and so is what came out.
+  -- The world is that of the definitions after these events, of this many nodes over new stores, and so is what came
+  -- out.
   pub record IsWorld {Setup : Type 0} (size : ℕ) (es : List (Event M.Body M.Line M.Target)) (w : WorldParts Setup M.Body M.Effect M.Played) : Type 0 where
     pub nodes : w.nodes ≡ world.run M (events_of M es) (start size)
     pub outs : outs_of M w.outs ≡ world.outputs M size (events_of M es)

@@ -26,7 +26,7 @@ module _ {E P : Type 0} (class : E → Class Parts) where
   handed_in (Refused refusal ∷ outs) = handed_in outs
   handed_in (Missing ∷ outs) = handed_in outs
 
--- Where this is the world of some events, these are the lines that are handed upstream over them.
+-- If this is the world of some events, these are the lines that are handed upstream over them.
 abbrev pub IsHandedOf : {Setup : Type 0} (M : Machine) → WorldParts Setup M.Body M.Effect M.Played → List (ℕ × Parts) → Type 0
 IsHandedOf M w lines =
     (size : ℕ) (es : List (Event M.Body M.Line M.Target)) → IsWorld M size es w → lines ≡ handed M size (events_of M es)

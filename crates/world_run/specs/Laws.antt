@@ -1,4 +1,4 @@
--- What holds over every list of events, of nodes that host any machine.
+-- Laws over every list of events, of nodes that host any machine.
 use Rattle.std.specs.Prelude.{◌≡◌, ◌⊎◌, ◌≤◌, ◌<◌, ℕ, pred, suc, Bool, true, false, IsTrue, List, ◌++◌, length, take, Some}
 use Rattle.machine_laws.specs.Runs.{all_effects}
 use Rattle.raft_log.specs.declared.entry.Entry.{Entry}
@@ -49,7 +49,7 @@ module _ (M : Machine) where
       item (agreed M size (early ++ late)) p ≡ Some e → e.body ≡ b →
       (k a : ℕ) → length (committed (moment M size early k) a) < p
 
-  -- so a node that has committed such a body has committed, below it, all that any node had by then
+  -- a node that has committed such a body has committed, below it, all that any node had by then
   abbrev pub ConfirmedHas : ℕ → List (Event M) → Type 0
   ConfirmedHas size early =
       (late : List (Event M)) (b : M.Body) (m c p : ℕ) (e : Entry M.Body) →
@@ -57,7 +57,7 @@ module _ (M : Machine) where
       item (committed (moment M size (early ++ late) m) c) p ≡ Some e → e.body ≡ b →
       (k a : ℕ) → Begins (committed (moment M size early k) a) (take (pred p) (committed (moment M size (early ++ late) m) c))
 
-  -- the same of what it has applied
+  -- the same for what it has applied
   abbrev pub AppliedHas : ℕ → List (Event M) → Type 0
   AppliedHas size early =
       (late : List (Event M)) (b : M.Body) (m c p : ℕ) (s : Node M.Body) (e : Entry M.Body) →
@@ -65,7 +65,7 @@ module _ (M : Machine) where
       item (moment M size (early ++ late) m) c ≡ Some s → item (take s.applied s.log) p ≡ Some e → e.body ≡ b →
       (k a : ℕ) → Begins (committed (moment M size early k) a) (take (pred p) (take s.applied s.log))
 
-  -- and a look that is answered at or behind that place plays a history that begins with all that any node had by then
+  -- and a look that is answered at or after that place plays a history that begins with all that any node had by then
   abbrev pub LookHas : ℕ → List (Event M) → Type 0
   LookHas size early =
       (late : List (Event M)) (b : M.Body) (p : ℕ) (e : Entry M.Body) (j i from place : ℕ) (target : M.Target) (lines : List M.Played) →
@@ -79,14 +79,15 @@ module _ (M : Machine) where
   EachIsSound size es =
       (k a : ℕ) (s : Node M.Body) → item (moment M size es k) a ≡ Some s → IsSound size s
 
-  -- a look that is answered at a place plays what the first bodies of the agreed list come to
+  -- a look that is answered at a place plays what follows from the first bodies of the agreed list
   abbrev pub LooksAreFaithful : ℕ → List (Event M) → Type 0
   LooksAreFaithful size es =
       (k i from place : ℕ) (target : M.Target) (lines : List M.Played) →
       item es k ≡ Some (Does (Look i from target)) → item (outputs M size es) k ≡ Some (Looked place lines) →
       (from ≤ place) × (place ≤ length (agreed M size es)) × (lines ≡ M.playback (history (take place (agreed M size es))) target)
 
-  -- what leaves where a place is applied is what the agreed list brings about at that place, as far as it leaves that node in its run and session
+  -- what leaves when a place is applied is what the agreed list brings about at that place, as far as it leaves that
+  -- node in its run and session
   abbrev pub ApplyIsFaithful : ℕ → List (Event M) → Type 0
   ApplyIsFaithful size es =
       (k i place : ℕ) (effects : List M.Effect) (s : Node M.Body) →
@@ -134,14 +135,15 @@ module _ (M : Machine) where
       item (moment M size es j) a ≡ Some s → item (moment M size es k) b ≡ Some t →
       p ≤ length s.log → p ≤ length t.log → term_at s.log p ≡ term_at t.log p → take p s.log ≡ take p t.log
 
-  -- what a node commits stands in the log of each leader of a later term
+  -- what a node commits is in the log of each leader of a later term
   abbrev pub LeadersHold : ℕ → List (Event M) → Type 0
   LeadersHold size es =
       (j k a b : ℕ) (s t : Node M.Body) →
       item (moment M size es j) a ≡ Some s → item (moment M size es k) b ≡ Some t →
       t.role ≡ Leader → s.term < t.term → Begins (take s.commit s.log) t.log
 
-  -- what a node commits, then or earlier, stands in the log of a node that is at least as up to date as that of each node of some majority
+  -- what a node commits, then or earlier, is in the log of a node that is at least as up to date as that of each node
+  -- of some majority
   abbrev pub UpToDateHolds : ℕ → List (Event M) → Type 0
   UpToDateHolds size es =
       (j k a b : ℕ) (s t : Node M.Body) (set : List Bool) → j ≤ k →
@@ -155,20 +157,20 @@ module _ (M : Machine) where
       item es k ≡ Some e → item (moment M size es (pred k)) a ≡ Some s → item (moment M size es k) a ≡ Some t →
       stepper M (moment M size es (pred k)) e ≡ a → IsTrue (begins_run M e) → t.boot ≡ suc s.boot
 
-  -- the id of a session that is opened is none that was ever live, at any node
+  -- the id of a session that is opened was never live before, at any node
   abbrev pub NewIdIsNew : ℕ → List (Event M) → Type 0
   NewIdIsNew size es =
       (j k a b : ℕ) (s t : Node M.Body) (live : Live) → j ≤ k →
       item (moment M size es j) a ≡ Some s → item (moment M size es k) b ≡ Some t →
       s.live ≡ Some live → t.role ≡ Leader → (new_session t).id ≡ live.id → ⊥
 
-  -- whatever makes a node a leader: behind its log the blank entry of its term, and next the place of that
+  -- whatever makes a node a leader: the blank entry of its term is at the end of its log, and next is the place of that
   abbrev pub LeadsWithBlank : Type 0
   LeadsWithBlank =
       (size i : ℕ) (a : Act M) (s : Node M.Body) → (s.role ≡ Leader → ⊥) → (turn M size i a s).node.role ≡ Leader →
       length s.log < entry_limit → LeadsAnew M.blank size s (turn M size i a s).node
 
-  -- where the log is full it leads without
+  -- if the log is full it leads without
   abbrev pub FullLeads : Type 0
   FullLeads =
       (size i : ℕ) (a : Act M) (s : Node M.Body) → (s.role ≡ Leader → ⊥) → (turn M size i a s).node.role ≡ Leader →
@@ -187,7 +189,7 @@ module _ (M : Machine) where
     pub agreed_grows : AgreedGrows size es
     pub each_brought : EachBrought size es
 
-  -- What leaves over these events is what the agreed list comes to.
+  -- What leaves over these events follows from the agreed list.
   pub record IsFaithful (size : ℕ) (es : List (Event M)) : Type 0 where
     pub looks : LooksAreFaithful size es
     pub applies : ApplyIsFaithful size es
@@ -200,14 +202,15 @@ module _ (M : Machine) where
     pub logs_match : LogsMatch size es
     pub leaders_hold : LeadersHold size es
 
-  -- a body that a node is asked for is of that node, in that run of it, if it is of one; else it is refused as one of another origin
+  -- a body that a node is asked for belongs to that node, in that run of it, if it belongs to one; else it is refused
+  -- as one of another origin
   abbrev pub AskedInItsRun : ℕ → List (Event M) → Type 0
   AskedInItsRun size es =
       (k i : ℕ) (body : M.Body) (s : Node M.Body) (out : Out M) →
       item es k ≡ Some (Does (Ask i body)) → item (moment M size es (pred k)) i ≡ Some s → item (outputs M size es) k ≡ Some out →
       (out ≡ Refused BadOrigin → ⊥) → may_ask i s (M.source body) ≡ true
 
-  -- Over these events runs of a node, their origins and sessions are told apart.
+  -- Over these events runs of a node, their origins and sessions are kept apart.
   pub record RunsAreApart (size : ℕ) (es : List (Event M)) : Type 0 where
     pub boots : NewRunNewBoot size es
     pub origins : AskedInItsRun size es

@@ -1,4 +1,4 @@
--- Events as the code has them, what each is by the definitions, and what happens by it to which node.
+-- Events as the code has them, what each is by the definitions, and what it does to which node.
 use Rattle.std.specs.Prelude.{ℕ, List, map, Option, None, Some}
 use Rattle.raft_log.specs.declared.message.Message.{Message}
 use Rattle.raft_log.specs.Lists.{item}
@@ -26,12 +26,12 @@ module _ {B L T : Type 0} where
   abbrev pub does : ℕ → Act B L T → Doing B L T
   does node act = record { node = node; act = act }
 
-  -- the message comes to whom it was sent
+  -- the message comes to its receiver
   abbrev pub delivered : Option (Message B) → Option (Doing B L T)
   delivered None = None
   delivered (Some m) = Some (does m.to (Steps (input.Deliver m)))
 
-  -- an input is what a node does, where there is such a message
+  -- an input is what a node does, if there is such a message
   abbrev pub doing_of : List (Node B) → Input B L T → Option (Doing B L T)
   doing_of w (Timeout i) = Some (does i (Steps input.Timeout))
   doing_of w (Beat i) = Some (does i (Steps input.Beat))
@@ -73,7 +73,7 @@ module _ (M : Machine) where
   told_act (Steps input) = act_of M input
   told_act (Looks from_place target) = steps.Looks from_place target
 
-  -- what happens to a node by it
+  -- what it does to a node
   abbrev pub told_own : Own M.Body M.Line M.Target → steps.Own M
   told_own (Acts act) = steps.Acts (told_act act)
   told_own Restarts = steps.Restarts

@@ -87,7 +87,7 @@ module _ (M : Machine) where
   own_of w (Restart i) = Restarts
   own_of w (StopIn x after) = Stops (act_of w x) after
 
-  -- the world with what happened to a node, where there is one
+  -- the world after something happened to a node, if there is one
   abbrev pub world_by : World → ℕ → Own M → Option (Node M.Body) → World
   world_by w i o None = w
   world_by w i o (Some s) = with_item w i (own M (length w) i o s).node
@@ -97,7 +97,7 @@ module _ (M : Machine) where
   out_by w i o None = Missing
   out_by w i o (Some s) = (own M (length w) i o s).out
 
-  -- the world after an event, in which one node changed; a node or a message that is not there changes nothing
+  -- the world after an event, in which one node changed; a node or a message that does not exist changes nothing
   abbrev pub happens : World → Event M → World
   happens w e = world_by w (stepper w e) (own_of w e) (item w (stepper w e))
 
@@ -115,7 +115,7 @@ module _ (M : Machine) where
   outs [] w = []
   outs (e ∷ es) w = out_of w e ∷ outs es (happens w e)
 
-  -- the world after the first k events, of so many nodes that began over new stores
+  -- the world after the first k events, of this many nodes that began over new stores
   abbrev pub moment : ℕ → List (Event M) → ℕ → World
   moment size es k = run (take k es) (start size)
 

@@ -6,9 +6,9 @@ ghost use Rattle.world_run.specs.Laws.{FullLeads, LeadsWithBlank, StopKeepsBlank
 use machine_laws::Hosted;
 use raft_node::Described;
 
-/// Of what any two nodes commit at any two moments, one list begins the other; what a node commits begins the agreed list,
-/// of which nothing is ever taken back, and each body in it is blank or was brought by an event. State machine safety of
-/// Raft's paper, Figure 3.
+/// For what any two nodes commit at any two moments, one list begins the other; what a node commits begins the agreed
+/// list, of which nothing is ever taken back, and each body in it is blank or was brought by an event. State machine
+/// safety of Raft's paper, Figure 3.
 pub fn committed_lists_agree<M: Hosted>()
     ensures one_list { (s : M.Setup) → OverAll (⟦<M as Described>⟧.machine s) OneList }
     ensures in_agreed { (s : M.Setup) → OverAll (⟦<M as Described>⟧.machine s) InAgreed }
@@ -32,20 +32,21 @@ pub fn logs_match<M: Hosted>()
     ensures { (s : M.Setup) → OverAll (⟦<M as Described>⟧.machine s) LogsMatch }
 {}
 
-/// What a node commits stands in the log of each leader of a later term. Leader completeness of Raft's paper, Figure 3.
+/// What a node commits is in the log of each leader of a later term. Leader completeness of Raft's paper, Figure 3.
 pub fn later_leaders_hold_what_is_committed<M: Hosted>()
     ensures { (s : M.Setup) → OverAll (⟦<M as Described>⟧.machine s) LeadersHold }
 {}
 
 /// A node's log that is at least as up to date as that of each node of a majority holds all that any node committed: a
-/// group that stopped may go on from that log, or begin anew from it, also where the stores outside that majority are lost.
-/// Raft's paper, section 5.4.1.
+/// group that stopped may go on from that log, or begin anew from it, even if the stores outside that majority are
+/// lost. Raft's paper, section 5.4.1.
 pub fn the_most_up_to_date_log_holds_all<M: Hosted>()
     ensures { (s : M.Setup) → OverAll (⟦<M as Described>⟧.machine s) UpToDateHolds }
 {}
 
-/// Whatever makes a node a leader leaves a blank entry of its term behind its log, in the same step; a stop after that step
-/// keeps the entry, a stop before it nothing. A full log takes none, and its node leads without. Raft's paper, section 8.
+/// Whatever makes a node a leader appends a blank entry of its term to its log, in the same step; a stop after that
+/// step keeps the entry, a stop before it nothing. A full log takes none, and its node leads without. Raft's paper,
+/// section 8.
 pub fn a_new_leader_appends_a_blank_entry<M: Hosted>()
     ensures leads { (s : M.Setup) → LeadsWithBlank (⟦<M as Described>⟧.machine s) }
     ensures full { (s : M.Setup) → FullLeads (⟦<M as Described>⟧.machine s) }

@@ -60,7 +60,7 @@ impl<M: Hosted> Cell<M> {
         &self.sent
     }
 
-    /// What it is.
+    /// Its state.
     pub fn state(&self) -> &NodeState<M::Command>
         ensures { result.now ≡ self.now.node.state }
     {
@@ -111,6 +111,7 @@ impl<M: Hosted> Cell<M> {
                 }
             }
             Err(NodeFault::Refused(refusal)) => Ok(Outcome::Refused(refusal)),
+            // a store in memory fails only when memory runs out
             Err(NodeFault::Down(_)) => Err(AllocError),
         }
     }
@@ -188,7 +189,7 @@ impl<M: Hosted> Cell<M> {
         Ok(Outcome::Quiet)
     }
 
-    /// What it does is saved, and nothing of it is sent.
+    /// Saves what it does, and sends nothing of it.
     fn act_unsent(&mut self, act: Act<M::Command, M::Line, M::Target>) -> Result<(), AllocError>
         ensures { IfOk result (λ _. HasActedUnsent (⟦<M as Described>⟧.machine self.old.node.setup)
             (told_act (⟦<M as Described>⟧.machine self.old.node.setup) act) self.old self.new) }

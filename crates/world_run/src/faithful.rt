@@ -1,11 +1,11 @@
-//! That what leaves the nodes is what the agreed list comes to.
+//! That what leaves the nodes follows from the agreed list.
 ghost use Rattle.world_run.specs.Laws.{ApplyIsFaithful, LooksAreFaithful, NoMoreLeaves, OverAll};
 
 use machine_laws::Hosted;
 use raft_node::Described;
 
-/// A look that is answered at a place plays what the first bodies of the agreed list come to, on every node. What leaves a
-/// node where it applies a place is what the agreed list brings about there, as far as it may leave that node.
+/// A look that is answered at a place plays what follows from the first bodies of the agreed list, on every node. What
+/// leaves a node when it applies a place is what the agreed list brings about there, as far as it may leave that node.
 pub fn what_leaves_is_of_the_agreed_list<M: Hosted>()
     ensures looks { (s : M.Setup) → OverAll (⟦<M as Described>⟧.machine s) LooksAreFaithful }
     ensures applies { (s : M.Setup) → OverAll (⟦<M as Described>⟧.machine s) ApplyIsFaithful }

@@ -27,7 +27,7 @@ pub struct Group<M: Hosted> {
 }
 
 impl<M: Hosted> Group<M> {
-    /// So many nodes over new stores.
+    /// A group of this size over new stores.
     pub fn start(alloc: Global, size: GroupSize, setup: &M::Setup) -> Result<Self, AllocError>
         ensures setup { IfOk result (λ g. (g.setup ≡ setup.now) × (g.size ≡ size)) }
         ensures group { IfOk result (λ g. IsGroup setup.now size g.cells.items) }
@@ -98,7 +98,7 @@ impl<M: Hosted> Group<M> {
     }
 }
 
-/// What is done by an input, and by which node; none where there is no such message.
+/// What an input does, and at which node; none if there is no such message.
 fn doing<M: Hosted>(
     alloc: Global,
     cells: &[Cell<M>],

@@ -10,8 +10,8 @@ use raft_node::Described;
 use std::alloc::{AllocError, Global};
 
 impl<M: Hosted> World<M> {
-    /// The lines that were handed upstream, by all nodes and all their runs, each with its number, in
-    /// the order of the events. Of a world that is not that of some events it says what came out.
+    /// The lines that were handed upstream, by all nodes and all their runs, each with its number, in the order of the
+    /// events. For a world that does not come from events this still says what came out.
     pub fn handed(&self, alloc: Global) -> Result<Vec<(u64, &Line)>, AllocError>
         ensures outs { IfOk result (λ v. map (λ h. (h.0, h.1.now)) v.items
             ≡ handed_in M.class self.now.outs) }

@@ -1,7 +1,6 @@
-//! Groups of whole nodes, over every list of events, for every machine that keeps the laws.
-//! Stands under world_views, headline and world_app.
-//! The world that the nodes' own code comes to by a list of events is the definition's: the nodes agree on one
-//! list, and no more leaves than that list brings about.
+//! Groups of whole nodes, over every list of events, for every machine that keeps the laws. world_views, headline and
+//! world_app use it. The world in which the nodes' own code ends after a list of events is the definition's: the nodes
+//! agree on one list, and no more leaves than that list brings about.
 #![tactic(auto)]
 
 mod agreeing;

@@ -12,7 +12,7 @@ pub enum Outcome<E, P> {
     Left { place: Number, effects: Vec<E> },
     /// What was applied up to this place is played.
     Looked { place: Number, lines: Vec<P> },
-    /// The node stays as it was.
+    /// The node is unchanged.
     Refused(Refusal),
     /// There is no such node or message.
     Missing,

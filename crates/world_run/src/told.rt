@@ -1,4 +1,4 @@
-//! What happens by an event to which node.
+//! What an event does to which node.
 use raft_log::Message;
 use raft_node::Input;
 use wire_bytes::Wire;
@@ -20,7 +20,7 @@ pub enum Own<B: Wire, L, T> {
     Stops(Act<B, L, T>, bool),
 }
 
-/// What is done, and by which node, which may be none of the group.
+/// What is done, and by which node, which may not be in the group.
 #[derive(Drop)]
 pub struct Doing<B: Wire, L, T> {
     pub node: u8,

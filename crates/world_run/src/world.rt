@@ -42,11 +42,11 @@ impl<M: Hosted> Model for World<M> {
 }
 
 impl<M: Hosted> World<M> {
-    /// What becomes of so many nodes over new stores by these events, in order. A node or a message that
-    /// is not there changes nothing. A size that no group has is `Refused`.
+    /// What a group of this size over new stores becomes by these events, in order. A node or a message that does not
+    /// exist changes nothing. A size that no group has is `Refused`.
     ///
-    /// Of what any two nodes commit at any two moments of the events, one list begins the other: State
-    /// Machine Safety of the Raft paper's Figure 3.
+    /// For what any two nodes commit at any two moments of the events, one list begins the other: State Machine Safety
+    /// of the Raft paper's Figure 3.
     pub fn run(
         alloc: Global,
         size: u8,
@@ -98,7 +98,7 @@ impl<M: Hosted> World<M> {
         &self.outs
     }
 
-    /// Copies of what the node of this number commits, where there is one.
+    /// Copies of what the node of this number commits, if there is one.
     pub fn committed(&self, node: u8) -> Result<Option<Vec<Entry<M::Command>>>, AllocError>
         ensures some { IfOk result (λ found. IfSome found
             (λ entries. entries.items ≡ committed self.now.nodes node)) }
@@ -111,7 +111,7 @@ impl<M: Hosted> World<M> {
         Ok(Some(self.group.cells[place - 1].committed()?))
     }
 
-    /// What the node of this number is, where there is one.
+    /// The state of the node of this number, if there is one.
     pub fn state(&self, node: u8) -> Option<&NodeState<M::Command>>
         ensures some { IfSome result (λ state. IsNodeOf self.now.nodes node state.now) }
         ensures none { result ≡ None → item self.now.nodes node ≡ None }

@@ -1,4 +1,5 @@
--- In the merged list each event happens at the state that its node's own earlier turns lead to. So what comes out of it is what came out by the view.
+-- In the merged list each event happens at the state to which its node's own earlier turns lead. So what comes out of
+-- it is what came out by the view.
 use Rattle.std.proofs.Common.{◌≡◌, ◌≢◌, ℕ, zero, suc, ◌⊎◌, inl, inr, ⊎_elim, Bool, true, false, cond, eqb, List, [], ◌∷◌, ◌++◌, length, set, refl, sym, ap, ◌∙◌, subst, arith, append-nil, eq-eqb, ne_eqb}
 use Rattle.std.proofs.lemmas.Bool.{eqb-true}
 use mathlib.Core.Option.{some, some-injective, some-ne-none}
@@ -25,7 +26,7 @@ module _ {A : Type 0} where
   at_set (x ∷ xs) (suc i) (suc j) a b e = ⊎_elim (λ t. inl (ap suc t.0, t.1)) (λ t. let n = t.0 in inr ((λ h. n (omega arith)), t.1)) (at_set xs i j a b e)
 
 module _ (M : Machine) where
-  -- a node's state is what its own turns lead to
+  -- a node's state is the one to which its own turns lead
   pub own_run : (w : List (Node M.Body)) (es : List (PlacedOf M)) (v : List (Node M.Body)) → Leads M w es v
       → (i : ℕ) (s0 s : Node M.Body) → get_elem? w i ≡ some s0 → get_elem? v i ≡ some s → s ≡ own.run M (length w) (suc i) s0 (turns_of i es)
   own_run w es v still i s0 s h k = some-injective s s0 (sym k ∙ h)

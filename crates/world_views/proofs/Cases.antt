@@ -1,5 +1,6 @@
--- A worked case, computed on the definitions: nodes 1 and 2 of three are opened over new stores, with tickets 0 and 1; node 1 waits too long
--- twice, with tickets 2 and 3; node 2 takes the message that is then for it, the third of node 1, and hears it with ticket 4.
+-- A worked case, computed on the definitions: nodes 1 and 2 of three are opened over new stores, with tickets 0 and 1;
+-- node 1 waits too long twice, with tickets 2 and 3; node 2 takes the message that is then for it, the third of node 1,
+-- and hears it with ticket 4.
 use Rattle.std.proofs.Common.{◌≡◌, ℕ, zero, suc, ◌<◌, ◌≤◌, inl, inr, ⊎_elim, true, List, [], ◌∷◌, map, length, Option, Some, None, refl, sym, ap, subst, ◌∙◌, arith}
 use Rattle.std.specs.Prelude.{◌^◌}
 use mathlib.Core.Option.{some, some-injective, some-ne-none}
@@ -66,7 +67,7 @@ three = record { size = 3; node = 2; honest = true; opened = None; turns = []; s
 abbrev views : List (ViewOf still)
 views = one ∷ two ∷ three ∷ []
 
--- what holds of each
+-- what holds for each
 each : (P : ℕ → ViewOf still → Type 0) → P 0 one → P 1 two → P 2 three → (i : ℕ) (v : ViewOf still) → IsAt views i v → P i v
 each P a b c zero v at = subst (P 0) (some-injective one v at) a
 each P a b c (suc zero) v at = subst (P 1) (some-injective two v at) b
@@ -201,7 +202,7 @@ events = world.Does (world.Timeout 1) ∷ world.Does (world.Timeout 1) ∷ world
 these_are_the_events : events_in still (world_after still 3 []) merged ≡ events
 these_are_the_events = refl
 
--- where node 1 had sent two messages before, its third is the fifth
+-- if node 1 had sent two messages before, its third is the fifth
 numbers_go_on : events_in still (world_after still 3 (world.Does (world.Timeout 1) ∷ [])) merged ≡ world.Does (world.Timeout 1) ∷ world.Does (world.Timeout 1) ∷ world.Does (world.Deliver 1 5) ∷ []
 numbers_go_on = refl
 

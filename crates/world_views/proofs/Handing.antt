@@ -126,12 +126,12 @@ module _ (M : Machine) where
   sum-append f [] ys = omega arith
   sum-append f (x ∷ xs) ys = omega (arith, sum-append f xs ys)
 
-  -- what comes out at the nodes from a place on, so many
+  -- what comes out at several nodes, from a place on
   abbrev at_places : (Out M → ℕ) → List (PlacedOf M) → List (Out M) → ℕ → ℕ → ℕ
   at_places f es outs k zero = 0
   at_places f es outs k (suc n) = sum f (outs_at M k es outs) + at_places f es outs (suc k) n
 
-  -- one number, where its place is among these
+  -- one number, if its place is among these
   abbrev if_among : ℕ → ℕ → ℕ → ℕ → ℕ
   if_among x p k zero = 0
   if_among x p k (suc n) = (cond (eqb p k) x 0) + if_among x p (suc k) n

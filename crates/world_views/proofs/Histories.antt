@@ -50,7 +50,7 @@ module _ {B : Type 0} where
   length-onto (y ∷ ys) [] e = absurd (omega arith)
   length-onto (y ∷ ys) (t ∷ ts) e = ap suc (length-onto ys ts (omega arith))
 
--- an item behind others
+-- an item after others
 pub item_past : {A : Type 0} (xs ys : List A) (k : ℕ) (x : A) → item ys k ≡ Some x → item (xs ++ ys) (length xs + k) ≡ Some x
 item_past xs ys zero x h = absurd (cc h)
 item_past xs ys (suc k) x h = let z : length xs + suc k ≡ suc (length xs + k) = omega arith in ap (λ (j : ℕ). item (xs ++ ys) j) z ∙ get_past xs ys k x h
@@ -71,7 +71,7 @@ module _ (M : Machine) where
       ∙ ap (λ (p : Option (Node M.Body)). world.out_by M w (suc i) o p) (got w i t at)
 
   module _ (w0 v : List (Node M.Body)) (long : length w0 ≡ length v) where
-    -- a delivered message stands in the world at its number, counted on from what its sender had sent
+    -- a delivered message is in the world at its number, counted on from what its sender had sent
     comes : (i : ℕ) (m : Envelope M.Body) → MayBring M v i (Some m) → sent_of (item (onto w0 v) m.message.from) (length (sent_in w0 m.message.from) + m.number) ≡ Some m.message
     comes i m may =
         let j : ℕ = sender m in let s = may.2.0 in let at = may.2.1 in let x = there w0 j (let lt = below v j s at in omega arith) in

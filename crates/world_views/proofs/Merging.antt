@@ -32,7 +32,7 @@ module _ (M : Machine) where
   abbrev state_in : (ℕ → Node M.Body) → ℕ → ViewOf M → Node M.Body
   state_in idle d v = runs M v (start_in idle v) (upto d v.turns)
 
-  -- what stands with a node stands with it whatever it would be if it were not opened
+  -- what holds for a node holds for it whatever it would be if it were not opened
   moved : (n i : ℕ) (o : Option (ℕ × Node M.Body)) (s t : Node M.Body) (ts : List (TurnOf M)) (d k : ℕ) (m : Message M.Body) → RisesFrom o ts → (start_from s o).sent ≡ []
       → item (run M n i (start_from s o) (upto d ts)).sent k ≡ Some m → item (run M n i (start_from t o) (upto d ts)).sent k ≡ Some m
   moved n i None s t ts d k m r fresh h =

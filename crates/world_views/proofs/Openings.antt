@@ -193,7 +193,7 @@ module _ (M : Machine) where
     committed_at v i s None b e is = absurd (cc e)
     committed_at v i s (Some c) b e is = ap committed_of is
 
-    -- so what any two nodes have committed begins one list
+    -- so of what any two nodes have committed one begins the other
     pub all_agree : AllAgree M before views
     unfolding w0
     all_agree i j p q at_p at_q open_p open_q =
@@ -205,7 +205,7 @@ module _ (M : Machine) where
         (subst (λ (x : List (Node M.Body)). Begins (committed x (suc i)) (committed x (suc j)) ⊎ Begins (committed x (suc j)) (committed x (suc i))) now
         (one_list M (length views) es (length es) (length es) (suc i) (suc j)))
 
-    -- and so of what they had committed before any two tickets
+    -- and the same before any two tickets
     pub agree_before : AllAgreeBefore M before views
     unfolding w0
     agree_before i j c d p q at_p at_q open_p open_q =

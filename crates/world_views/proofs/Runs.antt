@@ -33,7 +33,7 @@ module _ (M : Machine) where
   run_sent n i s [] k m h = h
   run_sent n i s (t ∷ ts) k m h = run_sent n i (own_state M n i s t.1) ts k m (still_sent n i s t.1 k m h)
 
-  -- what stood before a ticket stands before a later one
+  -- what a node had sent before a ticket it had sent before a later one
   pub later : (d d' : ℕ) (v : ViewOf M) (k : ℕ) (m : Message M.Body) → d ≤ d' → item (state_at M d v).sent k ≡ Some m → item (state_at M d' v).sent k ≡ Some m
   later d d' v k m le h = let more = upto_more d d' v.turns le in
       subst (λ (s : Node M.Body). item s.sent k ≡ Some m)

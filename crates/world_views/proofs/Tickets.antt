@@ -23,7 +23,7 @@ module _ {B L T : Type 0} where
   upto_before d t e [] le = ap (λ (c : Bool). cond c ((t, e) ∷ []) []) (le-ltb t d le)
   upto_before d t e (u ∷ us) le = ap (λ (l : List (Ticketed B L T)). cond (ltb u.0 d) (u ∷ l) []) (upto_before d t e us le)
 
-  -- where every ticket is below d, every turn is seen
+  -- if every ticket is below d, every turn is seen
   pub upto_all : (d : ℕ) (ts : List (Ticketed B L T)) → ((k t : ℕ) (v : NodeEvent B L T) → get_elem? ts k ≡ some (t, v) → t < d) → upto d ts ≡ ts
   upto_all d [] all = refl
   upto_all d (u ∷ us) all = ap (λ (c : Bool). cond c (u ∷ upto d us) []) (lt-ltb u.0 d (all 0 u.0 u.1 refl)) ∙ ap (λ (l : List (Ticketed B L T)). u ∷ l) (upto_all d us (λ k t v h. all (suc k) t v h))
@@ -83,7 +83,7 @@ module _ {B L T : Type 0} where
   turns-append i [] ys = refl
   turns-append i (x ∷ xs) ys = turns_by i x xs ys (eqb x.0 i) (turns-append i xs ys)
 
-  -- how many of these events come before a ticket, where they are in order
+  -- how many of these events come before a ticket, if they are in order
   abbrev pub early : ℕ → List (ℕ × Ticketed B L T) → ℕ
   early d [] = 0
   early d (e ∷ es) = cond (ltb e.1.0 d) (suc (early d es)) 0

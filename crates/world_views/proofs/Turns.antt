@@ -26,7 +26,7 @@ use Rattle.world_views.proofs.Histories.{item_past}
 use Rattle.world_views.proofs.Along.{outs_length}
 
 module _ (M : Machine) where
-  -- where a node's turn stands among the events of all, with what came out of it
+  -- the place of a node's turn among the events of all, with what came out of it
   record Found (i m : ℕ) (es : List (PlacedOf M)) (outs : List (Out M)) (t : TurnOf M) (o : Out M) : Type 0 where
     place : ℕ
     event : PlacedOf M
@@ -102,7 +102,7 @@ module _ (M : Machine) where
       let r = looks_are_faithful M (length views) (whole M before views es) e.place (suc i) from place target lines e.event e.out in
       record { late = r.0; within = r.1; played = r.2 }
 
-  -- the node at a moment is that of the view, but for what was sent
+  -- the node at a moment is that of the view, except for what was sent
   now_is : (w u : List (Node M.Body)) (i : ℕ) (s : Node M.Body) (o : Option (ℕ × Node M.Body)) (ts : List (TurnOf M)) (m : ℕ) (t : TurnOf M) → RisesFrom o ts → get_elem? ts m ≡ some t
       → IsNow M w u i s o → item u i ≡ Some (sent_first (sent_in w i) s)
   now_is w u i s None ts m t r at n = absurd (some-ne-none t (sym (subst (λ (l : List (TurnOf M)). get_elem? l m ≡ some t) r at)))

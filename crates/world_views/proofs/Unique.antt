@@ -15,7 +15,7 @@ module _ {B L T : Type 0} where
   none_is_some : (t : Ticketed B L T) (ts : List (Ticketed B L T)) → [] ≡ t ∷ ts → ⊥
   none_is_some t ts e = cc e
 
-  -- a node's turns begin with that of the first event, where it is the node's
+  -- a node's turns begin with that of the first event, if it is the node's
   own_first : (e : Placed B L T) (es : List (Placed B L T)) → turns_of e.0 (e ∷ es) ≡ e.1 ∷ turns_of e.0 es
   own_first e es = ap (λ (b : Bool). cond b (e.1 ∷ turns_of e.0 es) (turns_of e.0 es)) (eq-eqb e.0 e.0 refl)
 

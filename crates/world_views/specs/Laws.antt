@@ -28,7 +28,7 @@ abbrev pub NoneInBoth : List (ℕ × Parts) → List (ℕ × Parts) → Type 0
 NoneInBoth lines more =
     (i j n : ℕ) (one other : Parts) → slice_get lines i ≡ Some (n, one) → slice_get more j ≡ Some (n, other) → ⊥
 
--- of what two nodes commit one list begins the other
+-- one of the lists that two nodes commit begins the other
 abbrev pub AgreeTo : {B : Type 0} → Node B → Node B → Type 0
 AgreeTo s t = Begins (take s.commit s.log) (take t.commit t.log) ⊎ Begins (take t.commit t.log) (take s.commit s.log)
 
@@ -46,8 +46,8 @@ module _ (M : Machine) where
       (own_state M size i (sent_first xs s) e ≡ sent_first xs (own_state M size i s e))
       × (own_out M size i (sent_first xs s) e ≡ own_out M size i s e)
 
-  -- The merging law: where the views keep the rule over honest stores, the events of all records, by rising ticket, lead from the nodes
-  -- as they were opened to the nodes' states; whatever the nodes are that were not opened, they stay.
+  -- The merging law: if the views keep the rule over honest stores, the events of all records, by rising ticket, lead
+  -- from the nodes as they were opened to the nodes' states; whatever the nodes are that were not opened, they stay.
   abbrev pub RecordsMerge : Type 0
   RecordsMerge =
       (size next : ℕ) (views : List (ViewOf M)) → IsRule M size next views → AreHonest M views →
@@ -67,7 +67,8 @@ module _ (M : Machine) where
   abbrev pub OpeningsGoOn : Type 0
   OpeningsGoOn = NewStores × HeldStores
 
--- This holds of all views that keep the rule over honest stores, where the openings are as some list of events leaves the nodes.
+-- This holds for all views that keep the rule over honest stores, if the openings are as some list of events leaves the
+-- nodes.
 abbrev pub OverOpened : (M : Machine) → ((M : Machine) → List (Event M) → List (ViewOf M) → Type 0) → Type 0
 OverOpened M P =
     (size next : ℕ) (before : List (Event M)) (views : List (ViewOf M)) →
@@ -84,12 +85,12 @@ module _ (M : Machine) where
       (es : List (PlacedOf M)) (outs : List (Out M)) → IsRecord M views es outs →
       IsHistory M before views es × (outputs_of M before views es ≡ outputs M (length views) before ++ outs)
 
-  -- of what any two opened nodes have committed one list begins the other
+  -- one of the lists that any two opened nodes have committed begins the other
   abbrev pub AllAgree : List (Event M) → List (ViewOf M) → Type 0
   AllAgree before views =
       (i j : ℕ) (v w : ViewOf M) → IsAt views i v → IsAt views j w → IsOpened v → IsOpened w → AgreeTo v.state w.state
 
-  -- the same of what they had committed before any two tickets
+  -- the same for what they had committed before any two tickets
   abbrev pub AllAgreeBefore : List (Event M) → List (ViewOf M) → Type 0
   AllAgreeBefore before views =
       (i j c d : ℕ) (v w : ViewOf M) → IsAt views i v → IsAt views j w → IsOpened v → IsOpened w →
@@ -102,7 +103,7 @@ module _ (M : Machine) where
       (i m : ℕ) (v : ViewOf M) (t : TurnOf M) (o : Out M) → IsAt views i v → IsAt v.turns m t → IsAt (outs_of M v) m o →
       IsEvent M before views es i m v t o
 
-  -- a look that a view answered played what the first bodies of the agreed list come to
+  -- a look that a view answered played what follows from the first bodies of the agreed list
   abbrev pub LooksAreAgreed : List (Event M) → List (ViewOf M) → Type 0
   LooksAreAgreed before views =
       (es : List (PlacedOf M)) → IsHistory M before views es →
@@ -110,7 +111,8 @@ module _ (M : Machine) where
       IsAt views i v → IsAt v.turns m (d, Look from target) → IsAt (outs_of M v) m (Looked place lines) →
       IsPlayed M (agreed_over M before views es) from place target lines
 
-  -- what left a view's node where it applied a place is what the agreed list brings about there, as far as it leaves the node as it then was
+  -- what left a view's node when it applied a place is what the agreed list brings about there, as far as it leaves the
+  -- node as it then was
   abbrev pub AppliesAreAgreed : List (Event M) → List (ViewOf M) → Type 0
   AppliesAreAgreed before views =
       (es : List (PlacedOf M)) → IsHistory M before views es →
@@ -142,8 +144,8 @@ module _ (M : Machine) where
       × ((i j : ℕ) (v w : ViewOf M) → IsAt views i v → IsAt views j w → (i ≡ j → ⊥) →
       NoneInBoth (handed_by M v) (handed_by M w))
 
-  -- What two views of one group have together, where the openings are as the events `before` leave the nodes: one history of the
-  -- group, committed lists of which one begins the other, and no number that both handed upstream.
+  -- What two views of one group have together, if the openings are as the events `before` leave the nodes: one history
+  -- of the group, committed lists of which one begins the other, and no number that both handed upstream.
   pub record HaveOneHistory (before : List (Event M)) (views : List (ViewOf M)) (v w : ViewOf M) : Type 0 where
     pub events : List (PlacedOf M)
     pub history : IsHistory M before views events

@@ -32,11 +32,12 @@ module _ {B L T : Type 0} where
   AreInOrder [] = Unit {0}
   AreInOrder (t ∷ ts) = Rises t.0 ts
 
-  -- A node as it was opened, and as it stands. One that was not opened did nothing, whatever it is: `idle` says what.
+  -- A node as it was opened, and its current state. One that was not opened did nothing, whatever it is: `idle` says
+  -- what.
   abbrev pub start_in : (ℕ → Node B) → View B L T → Node B
   start_in idle v = start_from (idle v.node) v.opened
 
-  -- the node as it stands, or what `idle` says where it was not opened
+  -- the node's current state, or what `idle` says if it was not opened
   abbrev pub end_in : (ℕ → Node B) → View B L T → Node B
   end_in idle v = end_from (idle v.node) v.state v.opened
 

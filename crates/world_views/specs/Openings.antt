@@ -34,7 +34,7 @@ module _ {B : Type 0} where
   abbrev pub started_over : ℕ → Node B → Node B
   started_over size s = unsent (restarted size s)
 
-  -- the node that stands in a world for one that is not opened; it had sent something, which the views don't know
+  -- a node in a world in place of one that is not opened; it had sent something, which the views don't know
   abbrev pub idle_as : Option (Node B) → ℕ → Node B
   idle_as None size = newborn size
   idle_as (Some s) size = unsent s
@@ -44,7 +44,8 @@ module _ {B : Type 0} where
   idle_in w i = idle_as (item w (suc i)) (length w)
 
 module _ (M : Machine) where
-  -- An input of the node of this number as one of a group, where all nodes go on from the world w: their messages are numbered on.
+  -- An input of the node of this number as one of a group, if all nodes go on from the world w: the numbers of their
+  -- messages go on.
   abbrev pub input_in : List (Node M.Body) → ℕ → NodeInput M.Body M.Line → world.Input M
   input_in w i Timeout = world.Timeout i
   input_in w i Beat = world.Beat i
@@ -67,7 +68,7 @@ module _ (M : Machine) where
   abbrev pub events_in : List (Node M.Body) → List (PlacedOf M) → List (Event M)
   events_in w es = map (λ e. event_in w (suc e.0) e.1.1) es
 
-  -- the world to which these events lead so many nodes over new stores
+  -- the world to which these events lead this many nodes over new stores
   abbrev pub world_after : ℕ → List (Event M) → List (Node M.Body)
   world_after size es = run M es (start size)
 
@@ -75,7 +76,7 @@ module _ (M : Machine) where
   abbrev pub first_world : List (Event M) → List (ViewOf M) → List (Node M.Body)
   first_world before views = world_after (length views) before
 
-  -- the events of these records, behind those that come before the openings
+  -- the events of these records, after those that come before the openings
   abbrev pub whole : List (Event M) → List (ViewOf M) → List (PlacedOf M) → List (Event M)
   whole before views es = before ++ events_in (first_world before views) es
 
@@ -83,13 +84,14 @@ module _ (M : Machine) where
   abbrev pub restarts : ℕ → List (Event M)
   restarts size = map world.Restart (range_from 1 size)
 
-  -- the node of this number was opened as it stands in this world, but for what it had sent
+  -- the node of this number was opened in the state that it has in this world, except for what it had sent
   abbrev pub IsOpenedIn : List (Node M.Body) → ℕ → Option (ℕ × Node M.Body) → Type 0
   IsOpenedIn w i None = Unit {0}
   IsOpenedIn w i (Some b) = (s : Node M.Body) × (item w i ≡ Some s) × (b.1 ≡ unsent s)
 
-  -- The premise on the openings: in the world to which the events `before` lead the group over new stores, each node that was opened
-  -- is as it was opened, but for what it had sent. It has two special cases, in which a caller knows it.
+  -- The premise on the openings: in the world to which the events `before` lead the group over new stores, each node
+  -- that was opened is as it was opened, except for what it had sent. It has two special cases, in which a caller knows
+  -- it.
   abbrev pub OpenedAfter : List (Event M) → List (ViewOf M) → Type 0
   OpenedAfter before views = (i : ℕ) (v : ViewOf M) → IsAt views i v → IsOpenedIn (first_world before views) (suc i) v.opened
 
@@ -111,8 +113,8 @@ module _ (M : Machine) where
   abbrev pub HeldAfter : List (Event M) → List (ViewOf M) → Type 0
   HeldAfter before views = (i : ℕ) (v : ViewOf M) → IsAt views i v → IsOpenedOver (first_world before views) (suc i) v.opened
 
-  -- The node of this number in the world u, after what it had sent in the world of its opening w, is this one. A node that was not opened is
-  -- as it was in w.
+  -- The node of this number in the world u, after what it had sent in the world of its opening w, is this one. A node
+  -- that was not opened is as it was in w.
   abbrev pub IsNow : List (Node M.Body) → List (Node M.Body) → ℕ → Node M.Body → Option (ℕ × Node M.Body) → Type 0
   IsNow w u i s None = item u i ≡ item w i
   IsNow w u i s (Some b) = item u i ≡ Some (sent_first (sent_in w i) s)

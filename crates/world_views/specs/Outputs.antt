@@ -26,7 +26,7 @@ module _ (M : Machine) where
   abbrev pub handed_by : ViewOf M → List (ℕ × Parts)
   handed_by v = hands M (left_of M (outs_of v))
 
-  -- of what came out of each of these events, that of the node at a place
+  -- what came out of those of these events that are of the node at a place
   abbrev pub outs_at : ℕ → List (PlacedOf M) → List (Out M) → List (Out M)
   outs_at i [] outs = []
   outs_at i (e ∷ es) [] = []
@@ -44,9 +44,9 @@ module _ (M : Machine) where
   abbrev pub agreed_over : List (Event M) → List (ViewOf M) → List (PlacedOf M) → List (Entry M.Body)
   agreed_over before views es = agreed M (length views) (whole M before views es)
 
-  -- One list of the group's events leads from new stores to the states of all views: the events `before`, and then those of all records,
-  -- merged. At each moment since the openings each node is what its turns so far lead to, and what comes out of the list behind `before`
-  -- is what came out by each view alone.
+  -- One list of the group's events leads from new stores to the states of all views: the events `before`, and then
+  -- those of all records, merged. At each moment since the openings each node is in the state to which its turns so far
+  -- lead, and what comes out of the list after `before` is what came out by each view alone.
   pub record IsHistory (before : List (Event M)) (views : List (ViewOf M)) (es : List (PlacedOf M)) : Type 0 where
     pub merged : IsMerged M (idle_in (first_world M before views)) views es
     pub states : AreNow M (first_world M before views) (world_after M (length views) (whole M before views es)) views
@@ -65,8 +65,8 @@ module _ (M : Machine) where
     pub long : length outs ≡ length es
     pub own_outs : (i : ℕ) (v : ViewOf M) → IsAt views i v → outs_at i es outs ≡ outs_of v
 
-  -- The turn at place m of the view at place i, with what came out of it, is an event of the history, at a moment at which the node is
-  -- what the view's turns before it lead to.
+  -- The turn at place m of the view at place i, with what came out of it, is an event of the history, at a moment at
+  -- which the node is in the state to which the view's turns before it lead.
   pub record IsEvent (before : List (Event M)) (views : List (ViewOf M)) (es : List (PlacedOf M)) (i m : ℕ)
       (v : ViewOf M) (t : TurnOf M) (o : Out M) : Type 0 where
     pub place : ℕ
@@ -75,7 +75,7 @@ module _ (M : Machine) where
     pub state : IsNow M (first_world M before views) (moment_of before views es (pred place)) (suc i)
         (runs M v (start v) (take m v.turns)) v.opened
 
-  -- At a place, from this one on, what the first of these entries come to was played of a target.
+  -- At a place, from this one on, what follows from the first of these entries was played of a target.
   pub record IsPlayed (entries : List (Entry M.Body)) (from place : ℕ) (target : M.Target) (lines : List M.Played) : Type 0 where
     pub late : from ≤ place
     pub within : place ≤ length entries

@@ -34,7 +34,7 @@ module _ (M : Machine) where
   act_of Claim = Claims
   act_of Apply = Applies
 
-  -- what happens to a node by an event
+  -- what an event does to a node
   abbrev pub own_of : EventOf → Own M
   own_of (Does x) = Acts (act_of x)
   own_of (Look from_place target) = Acts (Looks from_place target)

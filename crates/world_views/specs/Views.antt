@@ -9,7 +9,7 @@ use Rattle.world_views.specs.declared.node_event.NodeEvent.TheVariants.{Does, Lo
 use Rattle.world_views.specs.Inputs.{NodeInput}
 use Rattle.raft_node.specs.declared.input.Input.TheVariants.{Timeout, Beat, Deliver, Ask, Opened, Closed, Heard, Claim, Apply}
 
--- this item stands at a place of a list, from 0 on
+-- this item is at a place of a list, from 0 on
 abbrev pub IsAt : {A : Type 0} → List A → ℕ → A → Type 0
 IsAt xs i x = get_elem? xs i ≡ some x
 
@@ -88,7 +88,7 @@ module _ {B L T : Type 0} where
   RisesFrom None ts = ts ≡ []
   RisesFrom (Some b) ts = Rises b.0 ts
 
-  -- the node as it was opened, or as it stands where it was not
+  -- the node as it was opened, or its current state if it was not
   abbrev pub start : View B L T → Node B
   start v = start_from v.state v.opened
 

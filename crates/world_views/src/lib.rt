@@ -1,7 +1,6 @@
-//! What running nodes did, each by its own view, and what all views come to together.
-//! Stands under ether, node_cells and headline.
-//! Where the views of all nodes keep the rule over honest stores, the events of all records by rising ticket are
-//! one list, which leads to the states of all views; so what holds of every list of events holds of running nodes.
+//! What running nodes did, each by its own view, and what all views give together. ether, node_cells and headline use
+//! it. If the views of all nodes keep the rule over honest stores, the events of all records by rising ticket are one
+//! list, which leads to the states of all views; so what holds for every list of events holds for running nodes.
 #![tactic(auto)]
 
 mod envelope;

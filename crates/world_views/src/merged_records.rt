@@ -9,9 +9,9 @@ pub fn what_was_sent_is_not_read<M: Hosted>()
     ensures { (s : M.Setup) → SentIsNotRead (⟦<M as Described>⟧.machine s) }
 {}
 
-/// Where views keep the rule and their stores are honest, the events of all records, by rising ticket and each once, lead
-/// from the nodes as they were opened to the states of all views: each event happens to its own node alone, and a message
-/// that it brings was sent before. A node that was not opened stays, whatever it is.
+/// If views keep the rule and their stores are honest, the events of all records, by rising ticket and each once, lead
+/// from the nodes as they were opened to the states of all views: each event happens to its own node alone, and a
+/// message that it brings was sent before. A node that was not opened stays, whatever it is.
 pub fn records_merge<M: Hosted>()
     ensures { (s : M.Setup) → RecordsMerge (⟦<M as Described>⟧.machine s) }
 {}

@@ -3,7 +3,7 @@ use crate::envelope::Envelope;
 use raft_node::Input;
 use wire_bytes::Wire;
 
-/// An input of one node, where a delivery holds the message with its number.
+/// An input of one node; a delivery holds the message with its number.
 pub type NodeInput<B, L> = Input<Envelope<B>, B, L>;
 
 /// What happens to one node, which is not named.

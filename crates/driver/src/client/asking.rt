@@ -1,4 +1,4 @@
-//! When a client's requests are told to its node.
+//! When a client's requests go to its node.
 ghost use Rattle.std.specs.Prelude.{◌≡◌, ◌||◌, IfOk, List, OnOk};
 ghost use Rattle.client_gate.specs.Calls.{Call, Stands, gate};
 ghost use Rattle.client_gate.specs.declared.settings.Settings.{Settings};
@@ -23,7 +23,7 @@ use std::alloc::{AllocError, Global};
 use wire_bytes::{Copied, Origin};
 
 impl Client {
-    /// Where nothing waits, what is asked for next is the oldest, and nothing holds it up.
+    /// If nothing waits, the next request is the oldest, and nothing holds it up.
     pub(crate) fn begin_asking(&mut self, now: &Now, orders: &Orders)
         ensures { (s : Settings) (calls : List Call) → Stands s calls self.old.gate →
             self.new ≡ begun (now_asked orders.now now.now.ms self.old) (gate s calls).waiting self.old }
@@ -34,7 +34,7 @@ impl Client {
         }
     }
 
-    /// By which note, and when, what is asked for next is told, if it is now.
+    /// The number of the note in which the next request would go now, and the time.
     fn asked_now(&self, now: &Now, orders: &Orders) -> Asked
         ensures { result ≡ now_asked orders.now now.now.ms self.now }
     {
@@ -44,8 +44,8 @@ impl Client {
         }
     }
 
-    /// Its requests are asked for, a JOIN behind a PART of the same channel as a line. The first one is that it is attached, by
-    /// a name or by none.
+    /// Its requests go out, a JOIN after a PART of the same channel as a line. The first request attaches the client,
+    /// with a name or without.
     #[tactic(auto, unfolding(crate::specs::Clients::asked_all, crate::specs::Cycling::reworded, crate::specs::Cycling::parted_all))]
     pub(crate) fn ask_all(
         &mut self,
@@ -73,7 +73,7 @@ impl Client {
         ask_each(self.origin, now, told, orders)
     }
 
-    /// The requests that are not known to be done are asked for again.
+    /// Sends again the requests that are not known to be done.
     pub(crate) fn ask_again(&mut self, now: &Now, orders: &mut Orders) -> Result<(), AllocError>
         ensures asked { (s : Settings) (calls : List Call) → Stands s calls self.old.gate →
             OnOk result (orders.new ≡ ordered orders.old
@@ -87,7 +87,7 @@ impl Client {
     }
 }
 
-/// By which name requests attach a client, where the first one attaches it by one.
+/// The name by which these requests attach a client, if the first one gives a name.
 fn name_asked(alloc: Global, requests: &[Request]) -> Result<Option<Name>, AllocError>
     ensures { IfOk result (λ name. name ≡ name_asked requests.now) }
 {

@@ -8,8 +8,8 @@ use irc_line::{Name, is_a_name, is_same_name};
 use std::alloc::{AllocError, Global};
 use std::marker::Model;
 
-/// The channels that a client has open: of each of them a JOIN was the last that it was shown of its own
-/// coming and going.
+/// The channels that a client has open: those for which the last thing it was shown of its own coming and going was a
+/// JOIN.
 ///
 /// A clause sees their names, each as it was shown first.
 #[derive(Drop)]
@@ -27,7 +27,7 @@ impl Model for Channels {
 }
 
 impl Channels {
-    /// There is none.
+    /// No channels.
     pub fn new(alloc: Global) -> Channels
         ensures { result ≡ [] }
     {
@@ -37,7 +37,7 @@ impl Channels {
         }
     }
 
-    /// Whether one of this name is open.
+    /// Whether a channel of this name is open.
     pub fn has(&self, name: &[u8]) -> bool
         ensures { result ≡ list_any (same_name name.now) self.now }
     {
@@ -46,7 +46,7 @@ impl Channels {
             .any(|open| is_same_name(name, open.as_bytes()))
     }
 
-    /// One of this name is open now.
+    /// Opens the channel of this name.
     pub fn add(&mut self, name: &[u8]) -> Result<(), AllocError>
         ensures opened { OnOk result (self.new ≡ opened name.now self.old) }
         ensures kept { OnErr result (self.new ≡ self.old) }
@@ -61,7 +61,7 @@ impl Channels {
         Ok(())
     }
 
-    /// None of this name is open any more.
+    /// Closes the channel of this name.
     pub fn close(&mut self, name: &[u8])
         ensures { self.new ≡ closed name.now self.old }
     {

@@ -1,4 +1,4 @@
-//! A JOIN behind a PART of the same channel, as clients send both at once to cycle a channel.
+//! A JOIN after a PART of the same channel: clients send both at once to cycle a channel.
 ghost use Rattle.std.specs.Prelude.{◌≡◌, IfOk, OnOk};
 ghost use Rattle.driver.specs.Cycling.{join_line, parted_all, parted_by, reworded, turned};
 
@@ -10,8 +10,8 @@ use irc_line::{Line, Name};
 use std::alloc::{AllocError, Global};
 
 impl Client {
-    /// Its requests as they are told to its node. The buffers take a channel as joined until the PART comes back, and
-    /// would answer a JOIN by nothing; so that goes to the server as a line, behind the PART.
+    /// Its requests as they go to its node. The buffers treat a channel as joined until the PART comes back, and would
+    /// ignore a JOIN; so the JOIN goes to the server as a line, after the PART.
     pub(crate) fn reword(&mut self, requests: Vec<Request>) -> Result<Vec<Request>, AllocError>
         ensures told { IfOk result (λ told. told.items ≡
             reworded self.old.channels self.old.parting requests.items) }
@@ -24,7 +24,7 @@ impl Client {
     }
 }
 
-/// Requests of a client, which has these channels open, and is parting from some, as they are told to its node.
+/// The requests of a client as they go to its node. The client has these channels open, and is parting from some.
 #[tactic(auto, unfolding(crate::specs::Cycling::reworded, crate::specs::Cycling::parted_all))]
 fn reword_all(
     alloc: Global,
@@ -46,7 +46,7 @@ fn reword_all(
     Ok(told)
 }
 
-/// An action as it is told to the client's node: a JOIN of a channel that the client is parting from goes as a line.
+/// An action as it goes to the client's node: a JOIN of a channel that the client is parting from goes as a line.
 fn turn(
     alloc: Global,
     shown: &Channels,
@@ -66,7 +66,7 @@ fn turn(
     }
 }
 
-/// A JOIN as it is told to the client's node. The client is not parting from the channel any more.
+/// A JOIN as it goes to the client's node. The client is no longer parting from the channel.
 fn turn_join(
     alloc: Global,
     shown: &Channels,
@@ -86,7 +86,7 @@ fn turn_join(
     Ok(Action::Join(channel))
 }
 
-/// The client is parting from a channel, if it has it open.
+/// The client is parting from a channel, if it has the channel open.
 fn note_part(shown: &Channels, parting: &mut Channels, channel: &Name) -> Result<(), AllocError>
     ensures { OnOk result (parting.new ≡
         parted_by shown.now parting.old (Action.Part channel.now)) }
@@ -97,7 +97,7 @@ fn note_part(shown: &Channels, parting: &mut Channels, channel: &Name) -> Result
     Ok(())
 }
 
-/// The line by which a channel is joined, as what goes upstream as it is.
+/// The line that joins a channel, to go upstream as it is.
 #[tactic(auto, using(crate::proofs::Cycling::join_is_line, crate::proofs::Cycling::join_fits))]
 fn join(alloc: Global, channel: &Name) -> Result<Action, AllocError>
     ensures { IfOk result (λ told. told ≡ Action.Pass (join_line channel.now)) }

@@ -1,4 +1,4 @@
-//! A client that the buffers close is told why.
+//! A client that the buffers close gets the reason.
 ghost use Rattle.std.specs.Prelude.{◌≡◌, IfOk, List, OnOk};
 ghost use Rattle.client_gate.specs.Calls.{Call, Stands, gate};
 ghost use Rattle.client_gate.specs.declared.settings.Settings.{Settings};
@@ -16,8 +16,8 @@ use std::alloc::{AllocError, Global};
 use upstream_claim::ClaimsEffect;
 
 impl Client {
-    /// Where the buffers close it by this effect, it is registered and its connection stands, it is told why, and so is
-    /// an operator.
+    /// If the buffers close it by this effect while it is registered and connected, the client gets the reason and the
+    /// operator a log line.
     pub fn tell_eviction(&self, effect: &TowerEffect, orders: &mut Orders) -> Result<(), AllocError>
         ensures { (s : Settings) (calls : List Call) → Stands s calls self.now.gate → OnOk result
             (IsToldWhy (eviction_in (gate s calls).waiting self.now effect.now) self.now
@@ -31,7 +31,7 @@ impl Client {
         orders.write(self.origin.client(), line)
     }
 
-    /// Why the buffers close it by this effect, where they do, it is registered and its connection stands.
+    /// Why the buffers close it by this effect, if they do while it is registered and connected.
     fn eviction_by(&self, effect: &TowerEffect) -> Option<Eviction>
         ensures { (s : Settings) (calls : List Call) → Stands s calls self.now.gate →
             result ≡ eviction_in (gate s calls).waiting self.now effect.now }
@@ -42,8 +42,8 @@ impl Client {
         Some(self.eviction())
     }
 
-    /// Why the buffers close it: before its first request is known to be done, which attaches it, this is refused; later
-    /// it gives way.
+    /// Why the buffers close it: until its first request, which attaches it, is known to be done, that request was
+    /// refused; later it gives way.
     fn eviction(&self) -> Eviction
         ensures { (s : Settings) (calls : List Call) → Stands s calls self.now.gate →
             result ≡ eviction_of (gate s calls).waiting self.now.name }
@@ -78,7 +78,7 @@ fn is_close(effect: &Effect) -> bool
     }
 }
 
-/// The line that tells a client why the buffers close it.
+/// The line that gives a client the reason why the buffers close it.
 fn eviction_line(alloc: Global, why: Eviction) -> Result<Vec<u8>, AllocError>
     ensures { IfOk result (λ line. line.items ≡ eviction_line why) }
 {

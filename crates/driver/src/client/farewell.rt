@@ -16,20 +16,20 @@ use crate::orders::Orders;
 use crate::timer::Timer;
 use std::alloc::AllocError;
 
-/// How long the connection of a client that leaves stays open, in milliseconds, where its Leave is not done.
-// Nodes that work take a fraction of a second. Where too few are up nobody knows when it is done, and a person
-// who quits waits for the end of the connection.
+/// How long the connection of a leaving client stays open if its Leave is not done, in milliseconds.
+// Working nodes take a fraction of a second. If too few are up nobody knows when it is done, and a person who quits
+// waits for the connection to close.
 const LEAVES_WITHIN: u64 = 5_000;
 
 impl Client {
-    /// Whether nothing more is read of it: it leaves, or its connection is gone.
+    /// Whether nothing more is read from it: it is leaving, or its connection is gone.
     pub fn is_leaving(&self) -> bool
         ensures { result ≡ is_leaving self.now }
     {
         self.is_gone || self.leaving.is_some()
     }
 
-    /// One that leaves is closed where all that it asked for is done.
+    /// Closes a leaving client once all its requests are done.
     pub(crate) fn part_if_done(&mut self, now: &Now, orders: &mut Orders) -> Result<(), AllocError>
         ensures { (s : Settings) (calls : List Call) → Stands s calls self.old.gate → OnOk result
             (PartsIf (is_done (gate s calls).waiting self.old) now.now.at s calls
@@ -51,7 +51,7 @@ impl Client {
         }
     }
 
-    /// It is to leave, as by a QUIT of its own; one that asked for nothing is closed at once.
+    /// It is to leave, as if it had sent QUIT; one that asked for nothing is closed at once.
     pub fn dismiss(&mut self, now: &Now, orders: &mut Orders) -> Result<(), AllocError>
         ensures { (s : Settings) (calls : List Call) → Stands s calls self.old.gate → OnOk result
             (IsDismissed now.now.ms now.now.at s calls
@@ -65,7 +65,7 @@ impl Client {
         self.part_if_done(now, orders)
     }
 
-    /// It leaves from now on: its last request goes to its node, if it registered.
+    /// It is leaving from now on: its last request goes to its node, if it registered.
     fn leave(&mut self, now: &Now, orders: &mut Orders) -> Result<(), AllocError>
         ensures told { (s : Settings) (calls : List Call) → Stands s calls self.old.gate →
             OnOk result (orders.new ≡ ordered orders.old

@@ -1,4 +1,4 @@
-//! What comes of a client's requests.
+//! Effects of a client's requests.
 ghost use Rattle.std.specs.Prelude.{◌≡◌, List, OnOk};
 ghost use Rattle.client_gate.specs.Calls.{Call, Stands};
 ghost use Rattle.client_gate.specs.declared.settings.Settings.{Settings};
@@ -13,7 +13,7 @@ use request_once::Answer;
 use std::alloc::AllocError;
 
 impl Client {
-    /// Something came of a request, under this nick. One that leaves is closed once its last request is done.
+    /// An effect of a request came, under this nick. A leaving client is closed once its last request is done.
     pub fn hear(
         &mut self,
         now: &Now,
@@ -29,7 +29,7 @@ impl Client {
         self.part_if_done(now, orders)
     }
 
-    /// Something came of a request, under this nick.
+    /// An effect of a request came, under this nick.
     fn hear_effect(
         &mut self,
         now: &Now,
@@ -54,8 +54,8 @@ impl Client {
     }
 }
 
-/// Whether a client is held up that was or was not, behind what came of a request: a number that was left
-/// out holds it up, and what is done for it ends that.
+/// Whether a client is held up after this effect, given whether it was before: a left-out number holds it up, and a
+/// request done for it ends that.
 fn is_held_behind(effect: &TowerEffect, is_held_up: bool) -> bool
     ensures { result ≡ held_behind effect.now is_held_up }
 {

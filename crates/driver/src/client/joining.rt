@@ -1,4 +1,4 @@
-//! What a client is shown of who joins a channel, and of its own parting.
+//! What a client is shown about who joins a channel, and about its own parting.
 ghost use Rattle.std.specs.Prelude.{◌≡◌, option_map};
 ghost use Rattle.driver.specs.Opening.{behind_space, channel_joined, channel_left, closed_by, first_in, is_join, is_kick, is_part};
 ghost use Rattle.driver.specs.Opening.{joined_as, nick_joining, opened_by, second_in, source_in, upto};
@@ -10,9 +10,8 @@ use request_once::Answer;
 use session_fence::FenceEffect;
 use upstream_claim::ClaimsEffect;
 
-/// The channel that an effect opens at its client, and the channel that it closes there. It opens one where it
-/// shows that someone joins it; it closes one where it shows that the client, who has this nick, parts from it, or
-/// is kicked.
+/// The channel that an effect opens for its client, and the channel that it closes. It opens one if it shows that
+/// someone joins it; it closes one if it shows that the client, who has this nick, parts from it or is kicked.
 pub fn moved_by<'a>(effect: &'a TowerEffect, nick: &[u8]) -> (Option<&'a [u8]>, Option<&'a [u8]>)
     ensures opened { option_map (λ name. name.now) result.0 ≡ opened_by effect.now }
     ensures closed { option_map (λ name. name.now) result.1 ≡ closed_by nick.now effect.now }
@@ -25,8 +24,8 @@ pub fn moved_by<'a>(effect: &'a TowerEffect, nick: &[u8]) -> (Option<&'a [u8]>, 
     }
 }
 
-/// The channels that a line opens and closes so, by its spelling. That nearly all lines do neither is known by
-/// what stands behind their first space.
+/// The channels that a line opens and closes in this way. For nearly all lines the byte after their first space shows
+/// that they do neither.
 fn moved_in<'a>(shown: &'a [u8], nick: &[u8]) -> (Option<&'a [u8]>, Option<&'a [u8]>)
     ensures opened { option_map (λ name. name.now) result.0 ≡ channel_joined shown.now }
     ensures closed { option_map (λ name. name.now) result.1 ≡ channel_left nick.now shown.now }
@@ -44,7 +43,7 @@ fn moved_in<'a>(shown: &'a [u8], nick: &[u8]) -> (Option<&'a [u8]>, Option<&'a [
     }
 }
 
-/// The channel of a JOIN with a prefix, by its spelling.
+/// The channel of a JOIN with a prefix.
 fn channel_joined(shown: &[u8]) -> Option<&[u8]>
     ensures { option_map (λ name. name.now) result ≡ channel_joined shown.now }
 {
@@ -57,7 +56,7 @@ fn channel_joined(shown: &[u8]) -> Option<&[u8]>
     }
 }
 
-/// The channel of a PART of this nick, or of a KICK of it, by the line's spelling.
+/// The channel of a PART by this nick, or of a KICK of it.
 fn channel_left<'a>(shown: &'a [u8], nick: &[u8]) -> Option<&'a [u8]>
     ensures { option_map (λ name. name.now) result ≡ channel_left nick.now shown.now }
 {
@@ -73,7 +72,7 @@ fn channel_left<'a>(shown: &'a [u8], nick: &[u8]) -> Option<&'a [u8]>
     }
 }
 
-/// Whether a line, behind the mark of its prefix, is a PART of this nick.
+/// Whether a line, without the colon of its prefix, is a PART by this nick.
 fn is_part(line: &[u8], nick: &[u8]) -> bool
     ensures { result ≡ is_part nick.now line.now }
 {
@@ -110,7 +109,7 @@ fn second_in(line: &[u8]) -> &[u8]
     upto(behind_space(behind_space(behind_space(line))), b' ')
 }
 
-/// By which nick an effect shows a client that someone joins a channel, if it does.
+/// The nick by which an effect shows a client that someone joins a channel, if it does.
 pub fn joined_as(effect: &TowerEffect) -> Option<&[u8]>
     ensures { option_map (λ nick. nick.now) result ≡ joined_as effect.now }
 {
@@ -122,7 +121,7 @@ pub fn joined_as(effect: &TowerEffect) -> Option<&[u8]>
     }
 }
 
-/// By which nick a line with a prefix is a JOIN, if it is one, by its spelling.
+/// The nick that joins by a line with a prefix, if the line is a JOIN.
 fn nick_joining(shown: &[u8]) -> Option<&[u8]>
     ensures { option_map (λ nick. nick.now) result ≡ nick_joining shown.now }
 {
@@ -135,7 +134,7 @@ fn nick_joining(shown: &[u8]) -> Option<&[u8]>
     }
 }
 
-/// What stands before the first such byte; all where there is none.
+/// The bytes before the first occurrence of a byte; all of them if it does not occur.
 fn upto(bytes: &[u8], mark: u8) -> &[u8]
     ensures { result.now ≡ upto mark bytes.now }
 {
@@ -147,7 +146,7 @@ fn upto(bytes: &[u8], mark: u8) -> &[u8]
     bytes
 }
 
-/// Whether a line with a prefix is a JOIN, by its spelling.
+/// Whether a line with a prefix is a JOIN.
 fn is_join(shown: &[u8]) -> bool
     ensures { result ≡ is_join shown.now }
 {
@@ -157,7 +156,7 @@ fn is_join(shown: &[u8]) -> bool
     }
 }
 
-/// What stands behind the first space, if there is one.
+/// The bytes after the first space, if there is one.
 pub fn behind_space(bytes: &[u8]) -> &[u8]
     ensures { result.now ≡ behind_space bytes.now }
 {

@@ -1,4 +1,4 @@
-//! By which nick a client was greeted.
+//! The nick by which a client was greeted.
 ghost use Rattle.std.specs.Prelude.{◌≡◌, OnOk};
 ghost use Rattle.driver.specs.Nicks.{IsNamed, is_misnamed};
 
@@ -9,7 +9,7 @@ use irc_line::is_same;
 use std::alloc::AllocError;
 
 impl Client {
-    /// It is told of this nick, which is in force, where it was greeted by another.
+    /// Tells it the nick in force, if it was greeted by another.
     pub fn tell_nick(&self, nick: &[u8], orders: &mut Orders) -> Result<(), AllocError>
         ensures { OnOk result (IsNamed self.now nick.now orders.old orders.new) }
     {
@@ -20,7 +20,7 @@ impl Client {
         orders.write(self.origin.client(), line)
     }
 
-    /// Whether it registered, its connection stands, and it was greeted by another nick than this one.
+    /// Whether it is registered and connected, and was greeted by another nick than this one.
     fn is_misnamed(&self, nick: &[u8]) -> bool
         ensures { result ≡ is_misnamed self.now nick.now }
     {

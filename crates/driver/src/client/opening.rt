@@ -8,7 +8,7 @@ use bouncer_tower::TowerEffect;
 use std::alloc::AllocError;
 
 impl Client {
-    /// An effect may open a channel, or close one, where it is shown under this nick.
+    /// An effect shown under this nick may open a channel, or close one.
     pub(crate) fn follow(&mut self, nick: &[u8], effect: &TowerEffect) -> Result<(), AllocError>
         ensures { OnOk result (self.new
             ≡ record self.old { channels = open_behind nick.now effect.now self.old.channels }) }
@@ -30,7 +30,7 @@ impl Client {
         self.channels.has(channel)
     }
 
-    /// It has no channel of this name open any more.
+    /// Closes the channel of this name.
     pub fn close(&mut self, channel: &[u8])
         ensures { self.new ≡ record self.old { channels = closed channel.now self.old.channels } }
     {

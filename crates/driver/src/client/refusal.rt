@@ -1,4 +1,4 @@
-//! A client whose password was wrong: what its gate answered is kept back, and nothing more is taken of it.
+//! A client whose password was wrong: the answer of its gate is held back, and nothing more is taken from it.
 ghost use Rattle.std.specs.Prelude.{◌≡◌, IfOk, List, OnOk, is_some, option_map};
 ghost use Rattle.client_gate.specs.Calls.{Call, Stands, gate};
 ghost use Rattle.client_gate.specs.Gates.{is_turned_down};
@@ -14,32 +14,32 @@ use crate::orders::Orders;
 use client_gate::{Fed, StatusWord};
 use std::alloc::AllocError;
 
-/// What a client whose password was wrong is still told, and when.
+/// What a client whose password was wrong is still to be sent, and when.
 #[derive(Drop)]
 pub struct Refusal {
-    /// What its gate answered: whole lines.
+    /// The gate's answer: whole lines.
     answer: Vec<u8>,
-    /// The moment from which on it is told that, and closed.
+    /// The moment from which on it is sent, and the client closed.
     due: u64,
 }
 
 impl Client {
-    /// Whether nothing more is taken of it: it leaves, its connection is gone, or its password was wrong.
+    /// Whether nothing more is taken from it: it is leaving, its connection is gone, or its password was wrong.
     pub fn is_shut(&self) -> bool
         ensures { result ≡ is_shut self.now }
     {
         self.is_leaving() || self.is_refused()
     }
 
-    /// Whether its password was wrong, and it is still to be told so.
+    /// Whether its password was wrong, and it has not been answered yet.
     pub fn is_refused(&self) -> bool
         ensures { result ≡ is_some self.now.refused }
     {
         self.refused.is_some()
     }
 
-    /// What its gate answered goes on; where its password was wrong, that is kept back until this moment. What the client
-    /// said to the bouncer by it that asked for nothing.
+    /// What its gate answered goes on, but after a wrong password it is held back until this moment. Returns what the
+    /// client said to the bouncer that asks nothing of the buffers.
     pub(crate) fn take(
         &mut self,
         now: &Now,
@@ -59,7 +59,7 @@ impl Client {
         }
     }
 
-    /// What its gate answered is kept back until this moment. What it asked for, if anything, goes to its node.
+    /// Holds the gate's answer back until this moment. A request, if there is one, goes to the node.
     fn keep_back(
         &mut self,
         now: &Now,
@@ -83,7 +83,7 @@ impl Client {
         Ok(words)
     }
 
-    /// What it is told now, where its password was wrong, and its moment has come.
+    /// The answer to a wrong password, if its moment has come.
     pub(crate) fn due_answer(&self, now: &Now) -> Option<&[u8]>
         ensures { option_map (λ answer. answer.now) result ≡ due_answer self.now.refused now.now.ms }
     {
@@ -97,7 +97,7 @@ impl Client {
         }
     }
 
-    /// An operator is told that it left, where it had registered.
+    /// Logs that it left, if it had registered.
     pub(crate) fn tell_left(&self, orders: &mut Orders) -> Result<(), AllocError>
         ensures { OnOk result (orders.new
             ≡ ordered orders.old (left_news self.now.is_attached self.now.origin)) }

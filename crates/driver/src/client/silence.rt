@@ -1,4 +1,4 @@
-//! What time brings to a client: it may be too slow, or too silent, or held up.
+//! What time does to a client: it may be too slow, too silent, or held up.
 ghost use Rattle.std.specs.Prelude.{◌≡◌, ◌||◌, true, false, List, OnOk};
 ghost use Rattle.client_gate.specs.Calls.{Call, Stands};
 ghost use Rattle.client_gate.specs.declared.settings.Settings.{Settings};
@@ -12,27 +12,28 @@ use crate::orders::Orders;
 use crate::timer::Timer;
 use std::alloc::AllocError;
 
-/// How long a client may take to register, in milliseconds: programs send all of it at once, and one that
-/// does not holds a connection that others may need.
+/// How long a client may take to register, in milliseconds: programs send all of it at once, and one that does not
+/// holds a connection that others may need.
 const REGISTERS_WITHIN: u64 = 10_000;
 
-/// After how long without a word a client is asked for one, and after how long more its connection is
-/// closed, in milliseconds.
+/// How long a client may be silent before it is sent a PING, and how much longer before its connection is closed, in
+/// milliseconds.
 // A connection that broke without a word is noticed within some minutes, as servers notice it.
 const SILENCE: u64 = 120_000;
 
-/// What a client is asked that was silent for long.
+/// What a client that was silent for long is sent.
 const PING: &[u8] = b"PING bouncer.local\r\n";
 
-/// What a client is told that did not register in time.
+/// What a client that did not register in time is sent.
 const TOO_SLOW: &[u8] = b"ERROR :you did not register in time\r\n";
 
-/// What a client is told that did not answer.
+/// What a client that did not answer the PING is sent.
 const TOO_SILENT: &[u8] = b"ERROR :no word from you for too long\r\n";
 
 impl Client {
-    /// Time passed, in which it was read or was not: it may leave for too long, be too slow to register, be told that
-    /// its password was wrong, or, where it was read, be too silent; and where it is held up, what waits is asked for again, once each timeout.
+    /// Time passed, in which the client was read or was not. It may have been leaving for too long, be too slow to
+    /// register, get the answer to a wrong password, or, if it was read, be too silent. If it is held up, what waits
+    /// goes out again, once each timeout.
     pub fn tick(
         &mut self,
         now: &Now,
@@ -63,7 +64,7 @@ impl Client {
         self.tick_read(now, timeout_ms, orders)
     }
 
-    /// It is not read: what it says meanwhile is not heard. One that did not register is read in any case.
+    /// It is not read, so what it says meanwhile is not heard. One that did not register is read in any case.
     fn hold_back(&mut self, now: &Now)
         ensures { self.new ≡ held_back now.now.ms self.old }
     {
@@ -72,7 +73,7 @@ impl Client {
         }
     }
 
-    /// Time passed.
+    /// Time passed while it was read.
     fn tick_read(
         &mut self,
         now: &Now,
@@ -96,7 +97,7 @@ impl Client {
         Ok(())
     }
 
-    /// One that was silent for long is asked for a word, once.
+    /// Sends a PING to one that was silent for long, once.
     fn ask_for_word(&mut self, now: &Now, orders: &mut Orders) -> Result<(), AllocError>
         ensures { OnOk result (IsAsked self.old now.now.ms orders.old self.new orders.new) }
     {
@@ -109,7 +110,7 @@ impl Client {
         Ok(())
     }
 
-    /// It is told why, and its connection is closed.
+    /// Sends it the reason, and closes its connection.
     fn send_off(&mut self, now: &Now, orders: &mut Orders) -> Result<(), AllocError>
         ensures { (s : Settings) (calls : List Call) → Stands s calls self.old.gate → OnOk result
             (IsSentOff now.now.ms now.now.at s calls self.old orders.old self.new orders.new) }
@@ -119,7 +120,7 @@ impl Client {
         self.hang_up(now, orders)
     }
 
-    /// What it is told last: what its gate answered to a wrong password, or else that it was too slow.
+    /// The last line it gets: the gate's answer to a wrong password, or else that it was too slow.
     fn last_line(&self, now: &Now) -> &[u8]
         ensures { result.now ≡ last_line self.now now.now.ms }
     {
@@ -129,12 +130,12 @@ impl Client {
         }
     }
 
-    /// Whether its password was wrong and its moment has come, or it did not register in time, or did not answer;
-    /// one that leaves or is gone no more is.
+    /// Whether its password was wrong and its moment has come, or it did not register in time, or did not answer. One
+    /// that is leaving or gone is not sent off.
     fn is_to_go(&self, now: &Now) -> bool
         ensures { result ≡ is_to_go self.now now.now.ms }
     {
-        // what a lost client still asks for, its Leave, has to be done
+        // the last request of a lost client, its Leave, still has to be done
         if self.is_leaving() {
             return false;
         }
@@ -153,7 +154,7 @@ impl Client {
     }
 }
 
-/// What a client is told that is too slow, one that registered or that did not.
+/// What a client that is too slow is sent, whether it registered or not.
 fn late_line(is_attached: bool) -> &'static [u8]
     ensures { result.now ≡ late_line is_attached }
 {

@@ -1,4 +1,4 @@
-//! What a client's node tells of itself is to the client.
+//! What a client learns of its node.
 ghost use Rattle.std.specs.Prelude.{List, OnOk};
 ghost use Rattle.client_gate.specs.Calls.{Call, Stands};
 ghost use Rattle.client_gate.specs.declared.settings.Settings.{Settings};
@@ -12,7 +12,7 @@ use crate::orders::Orders;
 use std::alloc::AllocError;
 
 impl Client {
-    /// Its node told that what it was told up to this note may be lost, and whether it refused a turn.
+    /// Its node reported that notes up to this one may be lost, and whether it refused a turn.
     pub fn hear_node(
         &mut self,
         now: &Now,
@@ -33,8 +33,8 @@ impl Client {
         self.ask_again(now, orders)
     }
 
-    /// Its node serves nobody, and the run of the node that it is a client of is over: it is told why, and its
-    /// connection is closed.
+    /// Its node serves nobody, and the run it is a client of is over: the client gets the reason, and its connection is
+    /// closed.
     pub fn hear_absence(&self, why: Absence, orders: &mut Orders) -> Result<(), AllocError>
         ensures { OnOk result (IsToldOff why self.now orders.old orders.new) }
     {

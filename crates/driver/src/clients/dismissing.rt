@@ -11,7 +11,7 @@ use crate::orders::Orders;
 use std::alloc::AllocError;
 
 impl Clients {
-    /// All clients are to leave, as by a QUIT of their own.
+    /// All clients are to leave, as if each had sent QUIT.
     pub fn dismiss_all(&mut self, now: &Now, orders: &mut Orders) -> Result<(), AllocError>
         ensures { OnOk result (DismissEach now.now.at now.now.ms (keys self.old.all)
             (told self.old orders.old) (told self.new orders.new)) }
@@ -23,7 +23,7 @@ impl Clients {
         Ok(())
     }
 
-    /// The client of this number is to leave, and is forgotten where nothing is left to do for it.
+    /// The client of this number is to leave, and is forgotten if nothing is left to do for it.
     fn dismiss(&mut self, now: &Now, number: u64, orders: &mut Orders) -> Result<(), AllocError>
         ensures others { AreOthersSame number self.old self.new }
         ensures nobody { client_at self.old number ≡ None →

@@ -1,4 +1,4 @@
-//! A client that the buffers close is told why.
+//! A client that the buffers close gets the reason.
 ghost use Rattle.std.specs.Prelude.{OnOk};
 ghost use Rattle.driver.specs.Evicting.{IsEvicted};
 ghost use Rattle.driver.specs.Rosters.{client_at};
@@ -10,7 +10,7 @@ use std::alloc::AllocError;
 use wire_bytes::Origin;
 
 impl Clients {
-    /// Where the buffers close the client of this origin by this effect, it is told why, and so is an operator.
+    /// If the buffers close the client of this origin by this effect, it gets the reason, and the operator a log line.
     pub fn tell_eviction(
         &self,
         origin: Origin,

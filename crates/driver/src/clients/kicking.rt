@@ -1,4 +1,4 @@
-//! Clients that have a channel open are put out of it.
+//! Clients are kicked from a channel that they have open.
 ghost use Rattle.std.specs.Prelude.{◌≡◌, true, false, None, Some, OnOk};
 ghost use Rattle.std.specs.BTreeMap.{keys};
 ghost use Rattle.driver.specs.declared.client.Client.{Client};
@@ -13,8 +13,8 @@ use crate::orders::Orders;
 use std::alloc::AllocError;
 
 impl Clients {
-    /// Each client that has this channel open is written this, where it is attached and its connection
-    /// stands, and has the channel open no more.
+    /// Each client that has this channel open is sent this, if it is attached and connected, and the channel is closed
+    /// for it.
     pub fn kick_all(
         &mut self,
         channel: &[u8],
@@ -31,7 +31,7 @@ impl Clients {
         Ok(())
     }
 
-    /// The client of this number is put out of the channel, where it has it open.
+    /// Kicks the client of this number from the channel, if it has it open.
     fn kick(
         &mut self,
         channel: &[u8],
@@ -70,7 +70,7 @@ impl Clients {
         }
     }
 
-    /// The client of this number has a channel open no more.
+    /// Closes a channel for the client of this number.
     fn close(&mut self, channel: &[u8], number: u64)
         ensures others { AreOthersSame number self.old self.new }
         ensures closes { (c : Client) → client_at self.old number ≡ Some c →

@@ -1,4 +1,4 @@
-//! Clients whose run of a node is over.
+//! Clients whose run of their node is over.
 ghost use Rattle.std.specs.Prelude.{◌≡◌, List, true, false, None, Some, OnOk};
 ghost use Rattle.std.specs.BTreeMap.{keys};
 ghost use Rattle.client_gate.specs.Calls.{Call, Stands, gate};
@@ -19,8 +19,8 @@ use raft_log::NodeId;
 use std::alloc::AllocError;
 
 impl Clients {
-    /// A run of a node began, with this boot: the connections of earlier runs' clients are closed, and
-    /// nothing more is done for these.
+    /// A run of a node began, with this boot: the connections of earlier runs' clients are closed, and nothing more is
+    /// done for them.
     pub fn leave_runs_below(
         &mut self,
         now: &Now,
@@ -38,7 +38,7 @@ impl Clients {
         Ok(())
     }
 
-    /// The client of this number is left where it is of a run of this node below this boot.
+    /// Closes the client of this number if it belongs to a run of this node below this boot.
     fn leave_if_below(
         &mut self,
         now: &Now,
@@ -71,7 +71,7 @@ impl Clients {
         Ok(())
     }
 
-    /// Whether the client of this number is of a run of this node below this boot.
+    /// Whether the client of this number belongs to a run of this node below this boot.
     fn is_below(&self, node: u8, boot: u64, number: u64) -> bool
         ensures { result ≡ is_one_below (client_at self.now number) node boot }
     {
@@ -81,8 +81,8 @@ impl Clients {
         }
     }
 
-    /// A node serves nobody: its clients are told why, their connections are closed, and nothing more is done
-    /// for these.
+    /// A node serves nobody: its clients get the reason, their connections are closed, and nothing more is done for
+    /// them.
     pub fn cut_off(
         &mut self,
         why: Absence,
@@ -99,7 +99,7 @@ impl Clients {
         Ok(())
     }
 
-    /// The client of this number is cut off where it is one of this node.
+    /// Cuts off the client of this number if it belongs to this node.
     fn cut_if_of(
         &mut self,
         why: Absence,

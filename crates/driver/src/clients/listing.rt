@@ -1,4 +1,4 @@
-//! Which clients there are, as one of them is told.
+//! The list of clients and channels, for one client that asks.
 ghost use Rattle.std.specs.Prelude.{◌≡◌, None, OnOk, map};
 ghost use Rattle.driver.specs.Absent.{absent_text};
 ghost use Rattle.driver.specs.Nicks.{AreMissed, IsToldOf};
@@ -14,7 +14,7 @@ use crate::standing::client_text;
 use std::alloc::AllocError;
 
 impl Clients {
-    /// The client of this number is told, by this nick, which clients are attached.
+    /// Sends the client of this number, under this nick, the list of attached clients.
     pub fn list_to(&self, number: u64, nick: &[u8], orders: &mut Orders) -> Result<(), AllocError>
         ensures { OnOk result
             (AllAreListed number self.now nick.now orders.old orders.new) }
@@ -26,7 +26,7 @@ impl Clients {
         Ok(())
     }
 
-    /// The client of this number is told of the one of another number, where that is attached and its connection stands.
+    /// Sends the client of this number a line about another client, if that one is attached and connected.
     fn list_one(
         &self,
         listed: u64,
@@ -48,8 +48,8 @@ impl Clients {
         self.tell(number, line.as_slice(), orders)
     }
 
-    /// The client of this number is told of each of these channels, by this nick, that it is not joined, and why, where
-    /// that is known.
+    /// Sends the client of this number, under this nick, a line for each of these channels: that it is not joined and,
+    /// if known, why.
     #[tactic(auto, unfolding(crate::specs::Nicks::AreMissed))]
     pub fn tell_absent(
         &self,
@@ -71,7 +71,7 @@ impl Clients {
         }
     }
 
-    /// The same of one channel.
+    /// Sends the line for one channel.
     fn tell_one_absent(
         &self,
         number: u64,
@@ -90,7 +90,7 @@ impl Clients {
         self.tell(number, line.as_slice(), orders)
     }
 
-    /// The client of this number is told these texts by `*status`, by this nick.
+    /// Sends the client of this number these texts from `*status`, under this nick.
     #[tactic(auto, unfolding(crate::specs::Answering::AreTold))]
     pub fn tell_lines(
         &self,

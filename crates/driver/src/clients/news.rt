@@ -1,4 +1,4 @@
-//! What a node tells of its notes is heard by its clients.
+//! A node's report about its notes reaches its clients.
 ghost use Rattle.std.specs.Prelude.{◌≡◌, true, false, None, Some, OnOk};
 ghost use Rattle.std.specs.BTreeMap.{keys};
 ghost use Rattle.driver.specs.declared.client.Client.{Client};
@@ -13,8 +13,7 @@ use raft_log::NodeId;
 use std::alloc::AllocError;
 
 impl Clients {
-    /// What a node was told up to this note may be lost; and it refused a turn, or did not: each of its
-    /// clients hears that.
+    /// Notes up to this one may be lost to a node, and it did or did not refuse a turn: each of its clients hears that.
     pub fn hear_node(
         &mut self,
         now: &Now,
@@ -33,7 +32,7 @@ impl Clients {
         Ok(())
     }
 
-    /// The client of this number hears it where it is one of this node.
+    /// The client of this number hears it if it belongs to this node.
     fn hear_if_of(
         &mut self,
         now: &Now,
@@ -64,7 +63,7 @@ impl Clients {
         Ok(())
     }
 
-    /// Whether the client of this number is one of this node.
+    /// Whether the client of this number belongs to this node.
     pub fn is_of(&self, node: NodeId, number: u64) -> bool
         ensures { result ≡ is_one_of (client_at self.now number) node }
     {

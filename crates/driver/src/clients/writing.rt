@@ -9,7 +9,7 @@ use crate::orders::Orders;
 use std::alloc::AllocError;
 
 impl Clients {
-    /// Each client that is attached, and whose connection stands, is written this.
+    /// Each client that is attached and connected is sent this.
     pub fn write_all(&self, text: &[u8], orders: &mut Orders) -> Result<(), AllocError>
         ensures { OnOk result (AllAreWritten self.now text.now orders.old orders.new) }
     {
@@ -20,7 +20,7 @@ impl Clients {
         Ok(())
     }
 
-    /// The client of this number is written this, if there is one, it is attached and its connection stands.
+    /// Sends this to the client of this number, if there is one and it is attached and connected.
     pub fn tell(&self, number: u64, text: &[u8], orders: &mut Orders) -> Result<(), AllocError>
         ensures told { OnOk result
             (IsWritten (client_at self.now number) text.now orders.old orders.new) }
@@ -32,7 +32,7 @@ impl Clients {
         }
     }
 
-    /// The client of this number is told of this nick, which is in force, where it was greeted by another.
+    /// Tells the client of this number the nick in force, if it was greeted by another.
     pub fn tell_nick(&self, number: u64, nick: &[u8], orders: &mut Orders) -> Result<(), AllocError>
         ensures told { OnOk result
             (IsNamedIn (client_at self.now number) nick.now orders.old orders.new) }
@@ -44,7 +44,7 @@ impl Clients {
         }
     }
 
-    /// The client of this number is written this, where it is attached and its connection stands.
+    /// Sends this to the client of this number, if it is attached and connected.
     pub fn write_to(&self, number: u64, text: &[u8], orders: &mut Orders) -> Result<(), AllocError>
         ensures { OnOk result
             (IsWritten (client_at self.now number) text.now orders.old orders.new) }

@@ -1,4 +1,4 @@
-//! What clients send, and wrong passwords among it.
+//! What clients send, including wrong passwords.
 ghost use Rattle.std.specs.Prelude.{◌≡◌, None, OnOk, is_some};
 ghost use Rattle.driver.specs.Coming.{Comes};
 ghost use Rattle.driver.specs.Guarding.{NotesIf, WatchesPasswords, first_news, more_news, noted};
@@ -12,11 +12,10 @@ use std::alloc::AllocError;
 use wire_bytes::Origin;
 
 impl Driver {
-    /// Bytes came from a client, however they are cut. Where it registered by them, its welcome goes on: it is told
-    /// of the nick in force where it was greeted by another, that there is no message of the day, and where there is no
-    /// server why, and when it is tried next. What it asks of the bouncer itself it is told; by DROP WAITING
-    /// what waits to go to the server is dropped. Where its password was wrong it is told so two seconds later, or in its
-    /// turn, by `tick`, and then closed.
+    /// Bytes came from a client, in pieces of any size. If it registered by them, its welcome goes on: the nick in
+    /// force if it was greeted by another, that there is no message of the day, and, without a server, why and when the
+    /// next try is. What it asks of the bouncer itself is answered; DROP WAITING drops what waits to go to the server.
+    /// A wrong password is answered two seconds later, or in its turn, by `tick`, and the client is then closed.
     pub fn receive(&mut self, now: &Now, number: u64, bytes: &[u8]) -> Result<(), AllocError>
         ensures others { AreOthersSame number self.old.clients self.new.clients }
         ensures nobody { client_at self.old.clients number ≡ None →
@@ -43,7 +42,7 @@ impl Driver {
         self.note_refusal(now, was_refused, number)
     }
 
-    /// A client's password may have been found wrong, where it was not before.
+    /// Counts a refusal if a client's password has just been found wrong.
     fn note_refusal(&mut self, now: &Now, was_refused: bool, number: u64) -> Result<(), AllocError>
         ensures noted { OnOk result (NotesIf was_refused
             (refused_in (client_at self.old.clients number)) now.now.ms
@@ -61,7 +60,7 @@ impl Driver {
         }
     }
 
-    /// A client of this origin came with a wrong password, of which an operator is told if it is one of the first.
+    /// The client of this origin sent a wrong password; it is logged if it is one of the first.
     fn note_wrong(&mut self, now: &Now, origin: Origin) -> Result<(), AllocError>
         ensures guard { OnOk result (self.new.guard ≡ noted now.now.ms self.old.guard) }
         ensures told { OnOk result (self.new.orders
@@ -77,7 +76,7 @@ impl Driver {
         self.orders.log(News::WrongPassword(origin))
     }
 
-    /// Where wrong passwords were counted for a minute, an operator is told how many came past the first ones.
+    /// Once wrong passwords were counted for a minute, logs how many came beyond the first ones.
     pub fn watch_passwords(&mut self, now: &Now) -> Result<(), AllocError>
         ensures { OnOk result (WatchesPasswords now.now.ms self.old self.new) }
     {
@@ -85,7 +84,7 @@ impl Driver {
         self.tell_wrong(more)
     }
 
-    /// An operator is told how many more came, where some did.
+    /// Logs how many more came, if any did.
     fn tell_wrong(&mut self, more: u64) -> Result<(), AllocError>
         ensures told { OnOk result (self.new.orders
             ≡ ordered self.old.orders (more_news more)) }
@@ -97,7 +96,7 @@ impl Driver {
         self.orders.log(News::WrongPasswords(more))
     }
 
-    /// Whether the password of the client of this number was wrong, and it is still to be told so.
+    /// Whether the password of the client of this number was wrong, and it has not been answered yet.
     pub fn is_refused(&self, number: u64) -> bool
         ensures { result ≡ is_some (refused_in (client_at self.now.clients number)) }
     {

@@ -1,4 +1,4 @@
-//! What a client is answered that asks something of the bouncer itself.
+//! Answers to what a client asks of the bouncer itself.
 ghost use Rattle.std.specs.Prelude.{◌≡◌, None, OnErr, OnOk, map};
 ghost use Rattle.driver.specs.Answering.{AllAreListed, Answers, AnswersAll, AnswersIf, AreTold, TellsStanding};
 ghost use Rattle.driver.specs.Answering.{answered_as, help_texts};
@@ -17,8 +17,8 @@ use raft_log::NodeId;
 use std::alloc::AllocError;
 
 impl Driver {
-    /// What a client that registered said to the bouncer that asked for nothing of the buffers is answered; by DROP
-    /// WAITING what waits to go to the server is dropped.
+    /// Answers what a registered client said to the bouncer that asks nothing of the buffers; DROP WAITING drops what
+    /// waits to go to the server.
     pub(crate) fn answer_all(
         &mut self,
         now: &Now,
@@ -36,7 +36,7 @@ impl Driver {
         self.answer_each(now, number, words)
     }
 
-    /// Words of a client are answered in turn.
+    /// Answers words of a client in turn.
     fn answer_each(
         &mut self,
         now: &Now,
@@ -53,7 +53,7 @@ impl Driver {
         Ok(())
     }
 
-    /// A word of a client is answered.
+    /// Answers a word of a client.
     fn answer(&mut self, now: &Now, number: u64, word: StatusWord) -> Result<(), AllocError>
         ensures answered { OnOk result (Answers word now.now.ms number self.old self.new) }
         ensures failed { OnErr result (self.new ≡ record self.old { orders = self.new.orders }) }
@@ -66,7 +66,7 @@ impl Driver {
         }
     }
 
-    /// A client is told which words there are.
+    /// Sends a client the list of words.
     fn list_words(&mut self, number: u64) -> Result<(), AllocError>
         ensures told { OnOk result (AreTold help_texts (client_at self.old.clients number)
             (nick_in self.old) self.old.orders self.new.orders) }
@@ -88,7 +88,7 @@ impl Driver {
         )
     }
 
-    /// A client is told these texts by `*status`.
+    /// Sends a client these texts from `*status`.
     pub(crate) fn tell_lines(&mut self, number: u64, texts: &[&[u8]]) -> Result<(), AllocError>
         ensures told { OnOk result (AreTold (map (λ text. text.now) texts.now)
             (client_at self.old.clients number) (nick_in self.old) self.old.orders self.new.orders) }
@@ -99,7 +99,7 @@ impl Driver {
             .tell_lines(number, nick, texts, &mut self.orders)
     }
 
-    /// A client is told which clients are attached.
+    /// Sends a client the list of attached clients.
     fn list_clients(&mut self, number: u64) -> Result<(), AllocError>
         ensures told { OnOk result (AllAreListed number self.old.clients (nick_in self.old)
             self.old.orders self.new.orders) }
@@ -109,7 +109,7 @@ impl Driver {
         self.clients.list_to(number, nick, &mut self.orders)
     }
 
-    /// A client is told how the bouncer stands, and who is attached.
+    /// Sends a client the state of the bouncer, and who is attached.
     fn tell_standing(&mut self, now: &Now, number: u64) -> Result<(), AllocError>
         ensures told { OnOk result (TellsStanding now.now.ms number self.old self.new.orders) }
         ensures rest { self.new ≡ record self.old { orders = self.new.orders } }
@@ -119,7 +119,7 @@ impl Driver {
         self.list_clients(number)
     }
 
-    /// A client is told how the bouncer stands, where this node leads, or none.
+    /// Sends a client the state of the bouncer, given which node leads, if one does.
     fn tell_texts(
         &mut self,
         now: &Now,

@@ -1,4 +1,4 @@
-//! What waits to go to the server is dropped, where a client asks for that.
+//! What waits to go to the server is dropped when a client asks for that.
 ghost use Rattle.std.specs.Prelude.{◌≡◌, IfOk, OnErr, OnOk};
 ghost use Rattle.driver.specs.Answering.{Drops};
 ghost use Rattle.driver.specs.Dropping.{EndsDrop, MayWait, TellsDropped, drop_words, dropped_text, dropping_begun};
@@ -14,8 +14,8 @@ use raft_log::NodeId;
 use std::alloc::{AllocError, Global};
 
 impl Driver {
-    /// What waits to go to the server and is said is dropped, and so is what is said until the leader has no line left to
-    /// claim. The client that asked is told whether something waits.
+    /// Said lines that wait to go to the server are dropped, and so are later ones until the leader has no line left to
+    /// claim. The client that asked learns whether anything waits.
     pub(crate) fn drop_waiting(&mut self, number: u64) -> Result<(), AllocError>
         ensures dropped { OnOk result (Drops number self.old self.new) }
         ensures failed { OnErr result (self.new ≡ record self.old { orders = self.new.orders }) }
@@ -26,7 +26,7 @@ impl Driver {
         Ok(())
     }
 
-    /// Whether something waits that is said, or may in the log.
+    /// Whether something said waits, or may wait in the log.
     fn waits(&self) -> bool
         ensures { MayWait self.now result }
     {
@@ -34,7 +34,7 @@ impl Driver {
         self.dropping.is_some() || self.link.has_said() || self.may_have_waiting(&leader)
     }
 
-    /// Whether a line may wait in the log, where this node leads, or none does.
+    /// Whether a line may wait in the log, if this node leads, or none does.
     fn may_have_waiting(&self, leader: &Option<NodeId>) -> bool
         ensures { result ≡ may_have_waiting leader.now self.now.monitors }
     {
@@ -54,7 +54,7 @@ impl Driver {
         }
     }
 
-    /// Where something waits that is said it is dropped, and the drop goes on.
+    /// If something said waits it is dropped, and the drop goes on.
     fn drop_if(&mut self, waits: bool)
         ensures { self.new ≡ record self.old {
           dropping = dropping_begun waits self.old.link.waiting self.old.dropping;
@@ -68,7 +68,7 @@ impl Driver {
         self.count_dropped(lines);
     }
 
-    /// So many lines more were dropped.
+    /// Counts further dropped lines.
     pub(crate) fn count_dropped(&mut self, lines: u64)
         ensures { self.new
             ≡ record self.old { dropping = more_dropped lines self.old.dropping } }
@@ -84,7 +84,7 @@ impl Driver {
         self.dropping.is_some() && !asks_names(line)
     }
 
-    /// Where no line waits in the log for this node, which leads, a drop that goes on ends.
+    /// Ends a drop if no line waits in the log for this node, which leads.
     pub(crate) fn end_drop(&mut self, node: NodeId) -> Result<(), AllocError>
         ensures { OnOk result (EndsDrop node self.old self.new) }
     {
@@ -97,7 +97,7 @@ impl Driver {
         }
     }
 
-    /// A drop ends by which so many lines were dropped: all who are attached are told.
+    /// A drop ends that dropped this many lines: all attached clients are told.
     fn tell_dropped(&mut self, count: u64) -> Result<(), AllocError>
         ensures { OnOk result (TellsDropped count self.old self.new) }
     {
@@ -107,7 +107,7 @@ impl Driver {
     }
 }
 
-/// What all are told where a drop ends by which so many lines were dropped.
+/// What all clients are sent when a drop ends that dropped this many lines.
 fn dropped_text(alloc: Global, count: u64) -> Result<Vec<u8>, AllocError>
     ensures { IfOk result (λ text. text.items ≡ dropped_text count) }
 {
@@ -117,7 +117,7 @@ fn dropped_text(alloc: Global, count: u64) -> Result<Vec<u8>, AllocError>
     Ok(text)
 }
 
-/// What who asked for a drop is told, where something waits, or where nothing does.
+/// The answer to the client that asked for a drop, whether something waits or not.
 fn drop_words(waits: bool) -> &'static [u8]
     ensures { result.now ≡ drop_words waits }
 {

@@ -1,4 +1,4 @@
-//! How full the log is, and what people are told of it.
+//! How full the log is, and the notices about that.
 ghost use Rattle.std.specs.Prelude.{◌≡◌, ◌-◌, OnOk, Some, slice_get};
 ghost use Rattle.driver.specs.Filling.{IsLogLength, TellsLevel, Watches, WatchesFor, is_left_out, is_refused, last_in, words_of};
 ghost use Rattle.driver.specs.Nicks.{IsWritten, nick_in, notice};
@@ -16,8 +16,8 @@ use raft_log::NodeId;
 use std::alloc::AllocError;
 
 impl Driver {
-    /// Where the leader's log rose to a level above that of which people were told last, the operator and
-    /// each client that is attached are told of it.
+    /// If the leader's log rose to a higher level than in the last notice, the operator and each attached client get a
+    /// notice.
     pub fn watch_log(&mut self) -> Result<(), AllocError>
         ensures { OnOk result (Watches self.old self.new) }
     {
@@ -27,7 +27,7 @@ impl Driver {
         self.watch_log_of(node)
     }
 
-    /// The same of the log of this node.
+    /// Watches the log of this node.
     fn watch_log_of(&mut self, node: NodeId) -> Result<(), AllocError>
         ensures { OnOk result (WatchesFor (Some node) self.old self.new) }
     {
@@ -51,7 +51,7 @@ impl Driver {
         }
     }
 
-    /// How many entries the leader has, as far as is known; `None` where no node leads.
+    /// How many entries the leader has, as far as is known; `None` if no node leads.
     pub fn log_length(&self) -> Option<u64>
         ensures { IsLogLength self.now.monitors result }
     {
@@ -59,14 +59,14 @@ impl Driver {
         Some(self.last_of(node))
     }
 
-    /// Whether what this client sends is not taken: it registered, and the log is full.
+    /// Whether input of this client is refused: it registered, and the log is full.
     pub fn refuses(&self, number: u64) -> bool
         ensures { result ≡ is_refused self.now number }
     {
         self.level.is_full() && self.clients.is_attached(number)
     }
 
-    /// This client is told that what it sent is not taken, where it registered and its connection stands.
+    /// Tells this client that its input is not taken, if it is registered and connected.
     pub fn refuse(&mut self, number: u64) -> Result<(), AllocError>
         ensures told { OnOk result (IsWritten (client_at self.old.clients number)
             (notice (nick_in self.old) (words_of Full)) self.old.orders self.new.orders) }
@@ -77,7 +77,7 @@ impl Driver {
             .write_to(number, line.as_slice(), &mut self.orders)
     }
 
-    /// Whether a note is left out: a line from the server, where the log is full.
+    /// Whether a note is left out: a line from the server, while the log is full.
     pub(crate) fn leaves_out(&self, note: &TowerNote) -> bool
         ensures { result ≡ is_left_out self.now.level note.now }
     {
@@ -87,7 +87,7 @@ impl Driver {
         }
     }
 
-    /// People are told of a level.
+    /// Sends the notice of a level.
     fn tell_level(&mut self, node: NodeId, level: Level) -> Result<(), AllocError>
         ensures { OnOk result (TellsLevel node level self.old self.new) }
     {

@@ -1,4 +1,4 @@
-//! What a node's worker tells, and what comes of it.
+//! What a node's worker reports, and what follows from it.
 ghost use Rattle.std.specs.Prelude.{◌≡◌, ◌-◌, is_some, slice_get, IfOk, OnOk};
 ghost use Rattle.bouncer_tower.specs.Hosting.{class_of};
 ghost use Rattle.driver.specs.Passing.{PassEach, Passes, PassesBy, ReachesClient};
@@ -24,7 +24,7 @@ use std::alloc::AllocError;
 use wire_bytes::{Number, Origin};
 
 impl Driver {
-    /// A node's worker told something.
+    /// A node's worker reported.
     pub fn hear(&mut self, now: &Now, report: TowerReport) -> Result<(), AllocError>
         ensures { OnOk result (Hears now.now.ms now.now.at report.node report.status
             report.effects.items report.progress (is_some report.fault) self.old self.new) }
@@ -37,7 +37,7 @@ impl Driver {
             fault,
         } = report;
         self.wake(now);
-        // before the node may be known to be down: by an effect a client may ask it for a Leave
+        // before the node may be known to be down: because of an effect a client may ask it for a Leave
         self.pass_all(now, node, effects.as_slice())?;
         let heard = self.hear_node(now, node, &status, &progress, fault.is_some())?;
         self.hear_word(now, node, &status, fault.is_some(), heard)?;
@@ -46,8 +46,7 @@ impl Driver {
         Ok(())
     }
 
-    /// How a node stands was told, how far its worker is, and whether a turn of it was refused. What is new
-    /// of it.
+    /// A report gives a node's state, how far its worker is, and whether it refused a turn. Returns what is new.
     fn hear_node(
         &mut self,
         now: &Now,
@@ -68,8 +67,7 @@ impl Driver {
         Ok(heard)
     }
 
-    /// What a node told is heard by its clients: that it is down, or that what it was told may be lost, or
-    /// that it refused a turn.
+    /// A node's clients hear its report: that it is down, that notes to it may be lost, or that it refused a turn.
     fn hear_word(
         &mut self,
         now: &Now,
@@ -94,7 +92,7 @@ impl Driver {
             .hear_node(now, node, lost, is_refused, &mut self.orders)
     }
 
-    /// Effects that left a node go to its clients, or to the server.
+    /// Effects from a node go to its clients, or to the server.
     fn pass_all(
         &mut self,
         now: &Now,
@@ -110,8 +108,8 @@ impl Driver {
         Ok(())
     }
 
-    /// An effect that left a node goes to its client, or to the server; before it clients are told of the
-    /// nick that it shows, where that was not known.
+    /// An effect from a node goes to its client, or to the server; before that clients learn the nick that it shows, if
+    /// it was not known.
     fn pass(&mut self, now: &Now, node: NodeId, effect: &TowerEffect) -> Result<(), AllocError>
         ensures { OnOk result
             (Passes now.now.ms now.now.at node effect.now self.old self.new) }
@@ -121,7 +119,7 @@ impl Driver {
         Ok(())
     }
 
-    /// An effect goes where it is for.
+    /// An effect goes to whoever it is for.
     fn hand_on(&mut self, now: &Now, node: NodeId, effect: &TowerEffect) -> Result<(), AllocError>
         ensures passes { OnOk result (PassesBy (class_of effect.now) now.now.ms
             now.now.at self.old.link.stage (nick_in self.old) node effect.now (told_of self.old) (told_of self.new)) }
@@ -140,8 +138,8 @@ impl Driver {
         Ok(())
     }
 
-    /// An effect is for the client of this origin, which is told why where the buffers close it, and hears word that the
-    /// server ends the session by a NOTICE.
+    /// An effect for the client of this origin. If the buffers close the client by it, the client gets the reason. A
+    /// line by which the server ends the session becomes a NOTICE.
     fn tell_client(
         &mut self,
         now: &Now,
@@ -162,7 +160,7 @@ impl Driver {
             .hear(now, nick, origin, effect, &mut self.orders)
     }
 
-    /// Where a run of a node began, its earlier runs are retired.
+    /// Retires the earlier runs of a node if a run of it began.
     fn begin_if(
         &mut self,
         is_new: bool,
@@ -178,7 +176,7 @@ impl Driver {
         self.begin(now, node, boot)
     }
 
-    /// A run of a node began: its earlier runs' clients are left, and these runs are retired.
+    /// A run of a node began: its earlier runs' clients are closed, and these runs are retired.
     fn begin(&mut self, now: &Now, node: NodeId, boot: Number) -> Result<(), AllocError>
         ensures { OnOk result (Begins now.now.ms now.now.at node boot self.old self.new) }
     {
@@ -188,7 +186,7 @@ impl Driver {
         Ok(())
     }
 
-    /// A node is asked to retire its runs below this boot.
+    /// Asks a node to retire its runs below this boot.
     fn retire_earlier(&mut self, now: &Now, node: NodeId, boot: Number) -> Result<(), AllocError>
         ensures retired { OnOk result (self.new.retirements.all ≡ retirement_begun self.old.orders
             now.now.ms boot (slice_get self.old.monitors (node - 1)) self.old.retirements.all) }

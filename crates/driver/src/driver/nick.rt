@@ -1,4 +1,4 @@
-//! The nick in force, and what clients are told of it.
+//! The nick in force, and what clients learn of it.
 ghost use Rattle.std.specs.Prelude.{◌≡◌, IfOk, None, OnOk};
 ghost use Rattle.driver.specs.Opening.{joined_as};
 ghost use Rattle.driver.specs.Learning.{LearnsNick, nick_learnt};
@@ -19,14 +19,14 @@ use node_notes::Note;
 use std::alloc::{AllocError, Global};
 
 impl Driver {
-    /// The nick in force, as far as is known: the machine has it once it has applied what its node was told.
+    /// The nick in force, as far as is known: the machine has it once it has applied the notes to its node.
     pub fn nick(&self) -> &Name
         ensures { result.now ≡ nick_in self.now }
     {
         nick_by(&self.given, &self.settings.nick)
     }
 
-    /// Each client that is attached is told this by `*status`, in a NOTICE of its nick.
+    /// Sends each attached client this text from `*status`, as a NOTICE to its nick.
     pub fn notice(&mut self, text: &[u8]) -> Result<(), AllocError>
         ensures told { OnOk result (AllAreWritten self.old.clients
             (notice (nick_in self.old) text.now) self.old.orders self.new.orders) }
@@ -36,9 +36,9 @@ impl Driver {
         self.clients.write_all(line.as_slice(), &mut self.orders)
     }
 
-    /// A client that has just registered is told of the nick in force where it was greeted by another, that there is
-    /// no message of the day, that too few nodes are up, where people were told so, that there is no server, where there is
-    /// none, and which channels are not joined.
+    /// A client that has just registered learns the nick in force if it was greeted by another, that there is no
+    /// message of the day, that too few nodes are up (if people were told so), that there is no server (if there is
+    /// none), and which channels are not joined.
     pub(crate) fn greet(
         &mut self,
         now: &Now,
@@ -64,7 +64,7 @@ impl Driver {
         self.tell_absent(number)
     }
 
-    /// A client is told that too few nodes are up, where people were told so, it is attached and its connection stands.
+    /// Tells a client that too few nodes are up, if people were told so and the client is attached and connected.
     fn warn(&mut self, number: u64) -> Result<(), AllocError>
         ensures told { OnOk result (IsWarned self.old.is_short
             (client_at self.old.clients number) (nick_in self.old) self.old.orders self.new.orders) }
@@ -78,7 +78,7 @@ impl Driver {
         self.clients.tell(number, line.as_slice(), &mut self.orders)
     }
 
-    /// A client is told that there is no server, where there is none, it is attached and its connection stands.
+    /// Tells a client that there is no server, if there is none and the client is attached and connected.
     fn tell_missing(&mut self, now: &Now, number: u64) -> Result<(), AllocError>
         ensures told { OnOk result (IsToldOf (missing_in self.old now.now.ms)
             (client_at self.old.clients number) (nick_in self.old) self.old.orders self.new.orders) }
@@ -92,7 +92,7 @@ impl Driver {
         self.clients.tell(number, line.as_slice(), &mut self.orders)
     }
 
-    /// A client is told which channels are not joined, and why, where it is attached and its connection stands.
+    /// Tells a client which channels are not joined, and why, if it is attached and connected.
     fn tell_absent(&mut self, number: u64) -> Result<(), AllocError>
         ensures told { OnOk result (AreMissed self.old.link.absent.channels
             (client_at self.old.clients number) (nick_in self.old) self.old.orders self.new.orders) }
@@ -104,7 +104,7 @@ impl Driver {
             .tell_absent(number, nick, self.link.absent(), &mut self.orders)
     }
 
-    /// What came in a session may give another nick.
+    /// A note of a session may give another nick.
     pub(crate) fn hear_nick(&mut self, note: &TowerNote) -> Result<(), AllocError>
         ensures { OnOk result (HearsNick note.now self.old self.new) }
     {
@@ -127,9 +127,8 @@ impl Driver {
         Ok(())
     }
 
-    /// Where no session of this process gave a nick yet, a client is shown no JOIN but its own, by the nick
-    /// that the machine kept: where that is another than the one that is asked for, clients are told of it,
-    /// and it is the nick in force.
+    /// While no session of this process has given a nick, a client is shown no JOIN but its own, by the nick that the
+    /// machine kept. If that differs from the one asked for, clients are told, and it is the nick in force.
     pub(crate) fn learn_nick(&mut self, effect: &TowerEffect) -> Result<(), AllocError>
         ensures { OnOk result (LearnsNick effect.now self.old self.new) }
     {
@@ -142,7 +141,7 @@ impl Driver {
         Ok(())
     }
 
-    /// The nick that an effect shows to be in force, where that was not known.
+    /// The nick that an effect shows to be in force, if it was not known.
     fn nick_learnt(&self, effect: &TowerEffect) -> Result<Option<Name>, AllocError>
         ensures { IfOk result (λ nick. nick
             ≡ nick_learnt self.now.given self.now.settings.nick (joined_as effect.now)) }
@@ -160,7 +159,7 @@ impl Driver {
         Ok(Name::from_bytes(bytes))
     }
 
-    /// Clients are told of another nick by the line that begins a session, since the buffers don't show it.
+    /// Clients learn another nick from the line that begins a session, since the buffers don't show it.
     fn tell_nick(&mut self, line: &Line) -> Result<(), AllocError>
         ensures renames { OnOk result (RenamesIf (is_renamed (nick_in self.old) line.now)
             self.old.clients (renaming (nick_in self.old) (parameter 0 line.now))
@@ -185,14 +184,14 @@ pub(crate) fn nick_by<'a>(given: &'a Option<Name>, asked: &'a Name) -> &'a Name
     }
 }
 
-/// Whether clients are to be told that a line gives who has this nick another.
+/// Whether clients are to be told that a line gives the user with this nick another one.
 fn is_renamed(line: &Line, nick: &[u8]) -> bool
     ensures { result ≡ is_renamed nick.now line.now }
 {
     is_new_nick(line, nick) && is_same(line.command(), b"001") && !is_same(nick, line.parameter(0))
 }
 
-/// A line of `*status`, by which a client of this nick is told something.
+/// A line from `*status`, by which a client of this nick gets a text.
 pub fn notice(alloc: Global, nick: &[u8], text: &[u8]) -> Result<Vec<u8>, AllocError>
     ensures { IfOk result (λ line. line.items ≡ notice nick.now text.now) }
 {

@@ -1,4 +1,4 @@
-//! From whom is to be read: not where what comes would only wait for its node.
+//! Which connections to read: not those whose input would only wait for its node.
 ghost use Rattle.std.specs.Prelude.{◌≡◌};
 ghost use Rattle.driver.specs.Links.{node_of};
 ghost use Rattle.driver.specs.Rosters.{IsReadOf, client_at, is_read_for};
@@ -7,8 +7,8 @@ use crate::driver::Driver;
 use crate::node_monitor::reads_for;
 
 impl Driver {
-    /// Whether the server's bytes are to be read. Where they are not, they are once `hear` was told that
-    /// notes of the session's node are done; what is given to `receive_line` meanwhile is not lost.
+    /// Whether the server's bytes are to be read. If not, they are read again once a report to `hear` says that notes
+    /// of the session's node are done; what is given to `receive_line` meanwhile is not lost.
     pub fn reads_server(&self) -> bool
         ensures { result ≡ is_read_for self.now.orders self.now.monitors
             (node_of self.now.link.stage) }
@@ -16,8 +16,8 @@ impl Driver {
         reads_for(&self.monitors, &self.orders, self.link.node())
     }
 
-    /// Whether this client's bytes are to be read. Where they are not, they are once `hear` was told that
-    /// notes of its node are done, or requests of it; what is given to `receive` meanwhile is not lost.
+    /// Whether this client's bytes are to be read. If not, they are read again once a report to `hear` says that notes
+    /// of its node are done, or requests of it; what is given to `receive` meanwhile is not lost.
     pub fn reads_client(&self, number: u64) -> bool
         ensures { IsReadOf result self.now.orders self.now.monitors
             (client_at self.now.clients number) }

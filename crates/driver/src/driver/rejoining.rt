@@ -14,8 +14,8 @@ use raft_log::NodeId;
 use std::alloc::AllocError;
 
 impl Driver {
-    /// The channel that a line of this node's session joins again waits to be joined. A client that has it open is put
-    /// out of it before: some programs close its window at a JOIN that they don't expect.
+    /// The channel in a rejoining line of this node's session waits to be joined. Clients that have it open are kicked
+    /// from it first: some programs close its window at a JOIN that they don't expect.
     pub(crate) fn rejoin(&mut self, node: NodeId, line: &Line) -> Result<(), AllocError>
         ensures told { OnOk result (Rejoins self.old.link.stage node line.now (nick_in self.old)
             (told_of self.old) (told_of self.new)) }

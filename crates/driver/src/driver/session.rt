@@ -20,11 +20,11 @@ use node_notes::Note;
 use raft_log::NodeId;
 use std::alloc::AllocError;
 
-/// What a server is told as the session is over.
+/// What a server is sent when the session is over.
 const QUIT: &[u8] = b"QUIT\r\n";
 
 impl Driver {
-    /// The server is connected to.
+    /// The connection to the server was made.
     pub fn connected(&mut self, now: &Now) -> Result<(), AllocError>
         ensures stands { OnOk result (IsConnected self.old.link.stage self.old.settings now.now.ms
             self.old.orders self.new.link.stage self.new.orders) }
@@ -35,7 +35,7 @@ impl Driver {
         self.link.connected(now, &self.settings, &mut self.orders)
     }
 
-    /// Bytes came from the server, however they are cut.
+    /// Bytes came from the server, in pieces of any size.
     pub fn receive_line(&mut self, now: &Now, bytes: &[u8]) -> Result<(), AllocError>
         ensures { OnOk result (TakesIf (node_of self.old.link.stage) now.now.ms now.now.at bytes.now
             self.old self.new) }
@@ -49,7 +49,7 @@ impl Driver {
         Ok(())
     }
 
-    /// The node of a session is told what came, in turn.
+    /// The node of a session gets what came, in turn.
     fn tell_all(&mut self, node: NodeId, notes: Vec<TowerNote>) -> Result<(), AllocError>
         ensures { OnOk result (TellsAllOf node notes.items self.old self.new) }
     {
@@ -59,8 +59,8 @@ impl Driver {
         Ok(())
     }
 
-    /// The node of a session is told what came, clients where it gives another nick, and an operator where
-    /// it is that the session opened. A line is left out where the log is full.
+    /// The node of a session gets what came. If it gives another nick clients are told, and the opening of the session
+    /// is logged. A line is left out if the log is full.
     fn tell_of(&mut self, node: NodeId, note: TowerNote) -> Result<(), AllocError>
         ensures { OnOk result (TellsIf (is_left_out self.old.level note) node note self.old self.new) }
     {
@@ -73,8 +73,8 @@ impl Driver {
         Ok(())
     }
 
-    /// Where what came says that the session opened, or that a channel is joined or is not, the connection knows it, and an
-    /// operator is told.
+    /// If what came says that the session opened, or that a channel is joined or is not, the connection records it and
+    /// it is logged.
     fn open_by(&mut self, node: NodeId, note: &TowerNote) -> Result<(), AllocError>
         ensures { OnOk result (OpensBy node note.now self.old self.new) }
     {
@@ -88,7 +88,7 @@ impl Driver {
         }
     }
 
-    /// A line from the server may say that a channel is joined, or is not: an operator is told of one that is not.
+    /// A line from the server may say that a channel is joined, or is not: one that is not is logged.
     fn hear_channels(&mut self, node: NodeId, line: &Line) -> Result<(), AllocError>
         ensures told { OnOk result (self.new.orders ≡ ordered self.old.orders
             (absent_news node (reason_number (nick_in self.old) line.now self.old.link.absent))) }
@@ -104,7 +104,7 @@ impl Driver {
         }
     }
 
-    /// What people are told of the channel whose reason not to be joined has this number, if there is one.
+    /// What people are shown about the channel whose reason not to be joined has this number, if there is one.
     pub fn why_not_joined(&self, number: u64) -> Result<Option<Vec<u8>>, AllocError>
         ensures { IfOk result (λ text. option_map (λ text. text.items) text
             ≡ text_numbered number self.now.link.absent.channels) }
@@ -119,8 +119,8 @@ impl Driver {
         self.end_session(now, why)
     }
 
-    /// There is no connection to the server, or none any more. A node that is down is not told: the session
-    /// of its run is over with the run.
+    /// There is no connection to the server any more, or there was none. A node that is down is not told: its session
+    /// ended with its run.
     fn end_session(&mut self, now: &Now, why: Ending) -> Result<(), AllocError>
         ensures { OnOk result (Ends now.now.ms why self.old self.new) }
     {
@@ -135,7 +135,7 @@ impl Driver {
         Ok(())
     }
 
-    /// The connection to the server is closed.
+    /// Closes the connection to the server.
     fn leave(&mut self, now: &Now, why: Ending) -> Result<(), AllocError>
         ensures { OnOk result (Leaves now.now.ms why self.old self.new) }
     {
@@ -144,8 +144,8 @@ impl Driver {
         Ok(())
     }
 
-    /// The connection to the server is left where it is of another node than the one that leads in the
-    /// greatest term, as far as is known: the older leader may hang, and not know of the newer one.
+    /// Leaves the connection to the server if it belongs to another node than the leader of the greatest term, as far
+    /// as is known: the older leader may hang, and not know of the newer one.
     pub fn leave_older(&mut self, now: &Now, leader: &Option<NodeId>) -> Result<(), AllocError>
         ensures { OnOk result (LeavesOlder (is_older (node_of self.old.link.stage) leader.now)
             now.now.ms self.old self.new) }
@@ -159,8 +159,8 @@ impl Driver {
         self.quit(now)
     }
 
-    /// The connection to the server is left, since its node leads no more. Where it has a session the server is told that
-    /// this is over, and has a second to close the connection: so the nick is free as the next session asks for it.
+    /// Leaves the connection to the server, since its node no longer leads. If it has a session the server gets a QUIT
+    /// and has a second to close the connection, so that the nick is free when the next session asks for it.
     fn quit(&mut self, now: &Now) -> Result<(), AllocError>
         ensures { OnOk result
             (QuitsIf (is_open self.old.link.stage) now.now.ms self.old self.new) }
@@ -174,7 +174,7 @@ impl Driver {
         Ok(())
     }
 
-    /// The server is told that the session is over.
+    /// Tells the server that the session is over.
     fn say_quit(&mut self) -> Result<(), AllocError>
         ensures { OnOk result (SaysQuit self.old self.new) }
     {
@@ -182,14 +182,14 @@ impl Driver {
         self.orders.send(quit)
     }
 
-    /// A server that says nothing is asked for a word.
+    /// Sends a PING to a server that says nothing.
     pub fn ask_quiet(&mut self, now: &Now) -> Result<(), AllocError>
         ensures { OnOk result (AsksServer now.now.ms self.old self.new) }
     {
         self.link.ask_quiet(now, &mut self.orders)
     }
 
-    /// The connection to a server that is silent is left, and one that the server had time to close.
+    /// Leaves the connection to a silent server, and one that the server had time to close.
     pub fn leave_silent(&mut self, now: &Now) -> Result<(), AllocError>
         ensures { OnOk result (LeavesIf (is_silent self.old.link.stage now.now.ms)
             now.now.ms Silent self.old self.new) }
@@ -200,7 +200,7 @@ impl Driver {
         self.leave(now, Ending::Silent)
     }
 
-    /// The server is connected to for this node, where that may be tried.
+    /// Connects to the server for this node, if that may be tried.
     pub fn connect_for(&mut self, now: &Now, node: NodeId) -> Result<(), AllocError>
         ensures { OnOk result (Connects now.now.ms node self.old self.new) }
     {
@@ -208,7 +208,7 @@ impl Driver {
     }
 }
 
-/// Whether this is the node that leads in the greatest term.
+/// Whether this node is the leader of the greatest term.
 pub fn is_that(leader: &Option<NodeId>, node: NodeId) -> bool
     ensures { result ≡ is_that leader.now node }
 {

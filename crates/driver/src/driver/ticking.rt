@@ -1,4 +1,4 @@
-//! What time brings, and how the nodes stand.
+//! What happens as time passes.
 ghost use Rattle.std.specs.Prelude.{◌≡◌, OnOk, map};
 ghost use Rattle.driver.specs.Driving.{Claims, Serves, ServesIf, Ticks, TicksMonitor, TicksNode, TickNodes};
 ghost use Rattle.driver.specs.Leading.{IsLeader, is_that};
@@ -30,8 +30,8 @@ impl Driver {
         Ok(())
     }
 
-    /// The driver runs at this moment: of the time since it last did, what is more than half a timeout
-    /// does not count as silence of any node.
+    /// The driver runs at this moment. Of the time since it last ran, all beyond half a timeout does not count as
+    /// silence of any node.
     pub fn wake(&mut self, now: &Now)
         ensures { self.new ≡ awake now.now.ms self.old }
     {
@@ -40,7 +40,7 @@ impl Driver {
         wait_longer(self.monitors.as_mut_slice(), slept);
     }
 
-    /// How much of the time since it last ran counts as no silence.
+    /// How much of the time since it last ran does not count as silence.
     fn slept(&self, now: &Now) -> u64
         ensures { result ≡ slept self.now.ran self.now.settings.timeout_ms now.now.ms }
     {
@@ -48,7 +48,7 @@ impl Driver {
         passed.saturating_sub(self.settings.timeout_ms as u64 / 2)
     }
 
-    /// Each node is told what it is to be told.
+    /// Each node gets its notes.
     fn tick_nodes(&mut self, now: &Now) -> Result<(), AllocError>
         ensures { OnOk result (TickNodes 7 now.now.ms 1 self.old self.new) }
     {
@@ -58,7 +58,7 @@ impl Driver {
         Ok(())
     }
 
-    /// What a node is told by the clock, and by how it and the others stand.
+    /// The notes that a node gets from the clock, by its own state and that of the others.
     pub fn tick_node(&mut self, now: &Now, node: NodeId) -> Result<(), AllocError>
         ensures { OnOk result (TicksNode now.now.ms node self.old self.new) }
     {
@@ -69,7 +69,7 @@ impl Driver {
         Ok(())
     }
 
-    /// What a node is told by the clock, and by the retirement of its run.
+    /// The notes that a node gets from the clock, and from the retirement of its run.
     fn tick_monitor(&mut self, now: &Now, node: NodeId) -> Result<(), AllocError>
         ensures { OnOk result (TicksMonitor now.now.ms node self.old self.new) }
     {
@@ -78,14 +78,14 @@ impl Driver {
             .tick_monitor(now, &self.settings, monitor, &mut self.orders)
     }
 
-    /// The node that leads in the greatest term, where one leads.
+    /// The leader of the greatest term, if one leads.
     fn leader(&self) -> Option<NodeId>
         ensures { IsLeader self.now.monitors result }
     {
         leader_of(&self.monitors)
     }
 
-    /// Where this node is the one that leads in the greatest term, it is served.
+    /// Serves this node if it is the leader of the greatest term.
     fn serve_if(
         &mut self,
         leader: &Option<NodeId>,
@@ -101,8 +101,8 @@ impl Driver {
         self.serve(now, node)
     }
 
-    /// What waits goes out for the node that leads in the greatest term; it claims, and the server is connected to; a drop
-    /// ends where no line is left to claim.
+    /// For the leader of the greatest term: what waits goes out, a line is claimed, the server is connected to, and a
+    /// drop ends if no line is left to claim.
     fn serve(&mut self, now: &Now, node: NodeId) -> Result<(), AllocError>
         ensures { OnOk result (Serves now.now.ms node self.old self.new) }
     {
@@ -113,7 +113,7 @@ impl Driver {
         Ok(())
     }
 
-    /// The next line of this node's session is claimed, where it could go out at once, or would be dropped.
+    /// Claims the next line of this node's session, if it could go out at once or would be dropped.
     fn claim(&mut self, now: &Now, node: NodeId) -> Result<(), AllocError>
         ensures { OnOk result (Claims now.now.ms node self.old self.new) }
     {
@@ -124,7 +124,7 @@ impl Driver {
     }
 }
 
-/// So much of the time that passed counts as no silence of any node.
+/// This many milliseconds do not count as silence of any node.
 fn wait_longer(monitors: &mut [NodeMonitor], ms: u64)
     ensures { monitors.new ≡ map (waited_longer ms) monitors.old }
 {

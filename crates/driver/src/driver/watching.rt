@@ -1,4 +1,4 @@
-//! Nodes that hang, and a group too few of whose nodes are up.
+//! Nodes that hang, and groups in which too few nodes are up.
 ghost use Rattle.std.specs.Prelude.{◌≡◌, ◌≤◌, ◌-◌, OnOk, length, map, slice_get};
 ghost use Rattle.driver.specs.Absences.{CutsBy, HangNodes, HangsIf, HangsNode, TellsGroup, TellsGroupIf, WatchesNodes};
 ghost use Rattle.driver.specs.Absences.{begins_in, goes_on, group_news, hang_limit, hanging, hangs_news};
@@ -19,16 +19,16 @@ use raft_log::NodeId;
 use std::alloc::AllocError;
 use wire_bytes::Number;
 
-/// What clients are told where too few nodes are up.
+/// What clients are sent when too few nodes are up.
 const TOO_FEW: &[u8] = b"Nothing is shown or sent for now: too few nodes are up.";
 
-/// What they are told where enough are again.
+/// What they are sent when enough are up again.
 const ENOUGH: &[u8] = b"Enough nodes are up again.";
 
 impl Driver {
-    /// Looks at the nodes. Where one hangs, and a majority has gone on for as long, its clients are told so and
-    /// closed, and its run is retired. While fewer than a majority are up, those that are down are started
-    /// again within two seconds; clients and an operator are told when that begins, and when it is over.
+    /// Looks at the nodes. If one hangs, and a majority has been working for as long, its clients are told so and
+    /// closed, and its run is retired. While fewer than a majority are up, those that are down are started again within
+    /// two seconds; clients are told and it is logged when that begins and when it ends.
     pub fn watch_nodes(&mut self, now: &Now) -> Result<(), AllocError>
         ensures { OnOk result (WatchesNodes now.now.ms self.old self.new) }
     {
@@ -38,14 +38,14 @@ impl Driver {
         self.tell_group(is_short)
     }
 
-    /// Whether too few nodes are up: others are down, or hang.
+    /// Whether too few nodes are up: others are down or hang.
     fn is_short(&self, now: &Now) -> bool
         ensures { result ≡ is_short self.now now.now.ms }
     {
         !self.has_majority(now, hang_limit(&self.settings))
     }
 
-    /// Where too few nodes are up, those that are down are started again soon.
+    /// Starts nodes that are down again soon, if too few are up.
     fn hasten_if(&mut self, is_short: bool)
         ensures { self.new ≡ record self.old
             { monitors = hastened_if is_short self.old.monitors } }
@@ -55,7 +55,7 @@ impl Driver {
         }
     }
 
-    /// Whether more than half of the nodes serve clients, each of which may be silent for so many milliseconds.
+    /// Whether more than half of the nodes serve clients, if each may be silent for this many milliseconds.
     fn has_majority(&self, now: &Now, limit: u64) -> bool
         ensures { result ≡ has_majority limit self.now now.now.ms }
     {
@@ -63,7 +63,7 @@ impl Driver {
         size / 2 < serving(&self.monitors[..size], now, limit)
     }
 
-    /// Clients of nodes that hang are cut off, where a majority has gone on for as long as these are silent.
+    /// Cuts off the clients of nodes that hang, if a majority has been working for as long as these are silent.
     fn cut_off_by(&mut self, now: &Now) -> Result<(), AllocError>
         ensures { OnOk result (CutsBy (goes_on self.old now.now.ms)
             (is_over self.old.going_on (hang_limit self.old.settings.timeout_ms) now.now.ms)
@@ -79,7 +79,7 @@ impl Driver {
         self.cut_off_hanging(now)
     }
 
-    /// Each node that begins to hang is found so.
+    /// Looks for nodes that begin to hang.
     fn cut_off_hanging(&mut self, now: &Now) -> Result<(), AllocError>
         ensures { OnOk result (HangNodes 7 now.now.ms 1 self.old self.new) }
     {
@@ -89,7 +89,7 @@ impl Driver {
         Ok(())
     }
 
-    /// Where a node begins to hang, its clients are told so and closed, and its run is retired.
+    /// If a node begins to hang, its clients are told so and closed, and its run is retired.
     fn cut_off_if_hanging(&mut self, now: &Now, node: NodeId) -> Result<(), AllocError>
         ensures { OnOk result (HangsIf (begins_in self.old.settings.timeout_ms now.now.ms
             (slice_get self.old.monitors (node - 1))) now.now.ms node self.old self.new) }
@@ -119,7 +119,7 @@ impl Driver {
             .cut_off(Absence::Hanging, node, &mut self.orders)
     }
 
-    /// That a node hangs in this run is known, and an operator is told.
+    /// Records that a node hangs in this run, and logs it.
     fn note_hanging(&mut self, node: NodeId, boot: Number) -> Result<(), AllocError>
         ensures monitors { OnOk result
             (self.new.monitors ≡ changed_at (hanging boot) self.old.monitors node) }
@@ -131,7 +131,7 @@ impl Driver {
         self.monitors[node.value() as usize - 1].hang(boot, &mut self.orders)
     }
 
-    /// The runs of a node that are over are retired.
+    /// Retires the runs of a node that are over.
     fn retire_hanging(&mut self, now: &Now, node: NodeId)
         ensures retired { self.new.retirements.all ≡ retired_in self.old.settings now.now.ms
             (slice_get self.old.monitors (node - 1)) self.old.retirements.all }
@@ -141,7 +141,7 @@ impl Driver {
             .retire_run(now, &self.settings, &self.monitors, node);
     }
 
-    /// People are told whether too few nodes are up, where that is new.
+    /// Tells people whether too few nodes are up, if that is new.
     fn tell_group(&mut self, is_short: bool) -> Result<(), AllocError>
         ensures { OnOk result (TellsGroupIf (is_new is_short self.old.is_short) is_short
             self.old self.new) }
@@ -152,7 +152,7 @@ impl Driver {
         self.tell_change(is_short)
     }
 
-    /// People are told that too few nodes are up, or enough again.
+    /// Tells people that too few nodes are up, or enough again.
     fn tell_change(&mut self, is_short: bool) -> Result<(), AllocError>
         ensures { OnOk result (TellsGroup is_short self.old self.new) }
     {
@@ -161,7 +161,7 @@ impl Driver {
         self.notice(group_words(is_short))
     }
 
-    /// Whether clients of this node were told that it hangs, and it has not answered since.
+    /// Whether clients of this node were told that it hangs, and no run of it has begun since.
     pub fn is_hanging(&self, node: NodeId) -> bool
         ensures { result ≡ is_hanging_in (slice_get self.now.monitors (node - 1)) }
     {
@@ -172,7 +172,7 @@ impl Driver {
     }
 }
 
-/// How many of these nodes serve clients, each of which may be silent for so many milliseconds.
+/// How many of these nodes serve clients, if each may be silent for this many milliseconds.
 #[tactic(auto, unfolding(crate::specs::Absences::serving))]
 fn serving(monitors: &[NodeMonitor], now: &Now, limit: u64) -> usize
     ensures count { result ≡ serving limit now.now.ms monitors.now }
@@ -191,7 +191,7 @@ fn serving(monitors: &[NodeMonitor], now: &Now, limit: u64) -> usize
     }
 }
 
-/// Each node that is down is started again soon.
+/// Starts each node that is down again soon.
 fn hasten_all(monitors: &mut [NodeMonitor])
     ensures { monitors.new ≡ map hastened monitors.old }
 {
@@ -200,21 +200,21 @@ fn hasten_all(monitors: &mut [NodeMonitor])
     }
 }
 
-/// Whether people know another state than this one.
+/// Whether the state that people know is another than this one.
 fn is_new(is_short: bool, known: bool) -> bool
     ensures { result ≡ is_new is_short known }
 {
     if is_short { !known } else { known }
 }
 
-/// What an operator is told where too few nodes are up, or enough again.
+/// What is logged when too few nodes are up, or enough again.
 fn group_news(is_short: bool) -> News
     ensures { result ≡ group_news is_short }
 {
     if is_short { News::TooFew } else { News::Enough }
 }
 
-/// What clients are told then.
+/// What clients are sent then.
 pub fn group_words(is_short: bool) -> &'static [u8]
     ensures { result.now ≡ group_words is_short }
 {

@@ -10,18 +10,18 @@ use raft_log::NodeId;
 use std::alloc::AllocError;
 
 /// The most lines that go out at once.
-// as many as a configuration may let go at once; where it has no pacing, more follow a moment later
+// as many as a configuration may allow at once; without pacing, more follow a moment later
 const MOST_AT_ONCE: usize = 100;
 
 impl Driver {
-    /// Whether a line may be claimed: none that is said waits, and it could go out at once, or would be dropped.
+    /// Whether a line may be claimed: no said line waits, and it could go out at once or would be dropped.
     pub(crate) fn may_claim(&self, now: &Now) -> bool
         ensures { result ≡ may_claim self.now now.now.ms }
     {
         !self.link.has_said() && (self.dropping.is_some() || self.pace.may_go(now.ms))
     }
 
-    /// What waits in this node's session goes out, as far as the pace allows it.
+    /// Sends what waits in this node's session, as far as the pace allows it.
     pub(crate) fn write_lines(&mut self, now: &Now, node: NodeId) -> Result<(), AllocError>
         ensures { OnOk result (WriteLines MOST_AT_ONCE now.now.ms node self.old self.new) }
     {
@@ -33,7 +33,7 @@ impl Driver {
         Ok(())
     }
 
-    /// What goes next goes out, where something waits, and the pace allows it. Whether something does.
+    /// Sends the next piece, if something waits and the pace allows it. Returns whether it did.
     fn write_line(&mut self, now: &Now, node: NodeId) -> Result<bool, AllocError>
         ensures goes { IfOk result (λ goes. goes ≡ is_some (piece_of now.now.ms node self.old)) }
         ensures written { OnOk result (WritesLine now.now.ms node self.old self.new) }
@@ -49,7 +49,7 @@ impl Driver {
         Ok(true)
     }
 
-    /// This goes to the server, which waits no more.
+    /// Sends a piece to the server. It no longer waits.
     fn send_piece(&mut self, now: &Now, piece: Piece) -> Result<(), AllocError>
         ensures { OnOk result (Goes now.now.ms piece self.old self.new) }
     {

@@ -1,4 +1,4 @@
-//! What the server says of channels in the session.
+//! What the server says about channels in the session.
 ghost use Rattle.std.specs.Prelude.{◌≡◌, IfOk, OnOk, option_map};
 ghost use Rattle.driver.specs.Absent.{absent_behind, is_refused, reason_number, text_numbered};
 ghost use Rattle.driver.specs.Sessions.{channels_heard};
@@ -10,8 +10,8 @@ use irc_line::Line;
 use std::alloc::AllocError;
 
 impl Link {
-    /// A line from the server, to who has this nick, may say that a channel is joined, or that it is not, and why. The
-    /// number of the reason, where it gives one.
+    /// A line from the server, for the user with this nick, may say that a channel is joined, or that it is not, and
+    /// why. Returns the number of the reason, if it gives one.
     pub fn hear_channels(&mut self, nick: &[u8], line: &Line) -> Result<Option<u64>, AllocError>
         ensures number { IfOk result (λ number.
             number ≡ reason_number nick.now line.now self.old.absent) }
@@ -21,7 +21,7 @@ impl Link {
         self.hear_absent(nick, line)
     }
 
-    /// The same of channels that are not joined.
+    /// Updates the channels that are not joined, by such a line.
     fn hear_absent(&mut self, nick: &[u8], line: &Line) -> Result<Option<u64>, AllocError>
         ensures number { IfOk result (λ number.
             number ≡ reason_number nick.now line.now self.old.absent) }
@@ -45,21 +45,21 @@ impl Link {
         Ok(None)
     }
 
-    /// Whether the server refuses a JOIN by a line that it was to answer.
+    /// Whether a line answers a JOIN with a refusal.
     fn is_refused(&self, line: &Line) -> bool
         ensures { result ≡ is_refused line.now self.now.absent }
     {
         is_refusal(line) && self.absent.is_waited_for(line.parameter(1))
     }
 
-    /// The channels that are not joined though they are to be.
+    /// The channels that should be joined but are not.
     pub fn absent(&self) -> &[AbsentChannel]
         ensures { result.now ≡ self.now.absent.channels }
     {
         self.absent.as_slice()
     }
 
-    /// What people are told of the channel whose reason has this number, if there is one.
+    /// What people are shown about the channel whose reason has this number, if there is one.
     pub fn why_absent(&self, number: u64) -> Result<Option<Vec<u8>>, AllocError>
         ensures { IfOk result (λ text. option_map (λ text. text.items) text
             ≡ text_numbered number self.now.absent.channels) }

@@ -15,12 +15,12 @@ use crate::timer::Timer;
 use std::alloc::AllocError;
 use uplink::Uplink;
 
-/// After how long a session the first wait is the shortest again, in milliseconds.
+/// How long a session must last for the first wait to be the shortest again, in milliseconds.
 const GOOD_SESSION: u64 = 60_000;
 
 impl Link {
-    /// The connection is gone, or could not be made, and nothing waits to go out any more. Whether its node has to be
-    /// told.
+    /// The connection is gone, or could not be made, and nothing waits to go out any more. Returns whether its node has
+    /// to be told.
     pub fn lose(&mut self, now: &Now, why: Ending, orders: &mut Orders) -> Result<bool, AllocError>
         ensures told { OnOk result (orders.new ≡ ordered orders.old (ending self.old.stage why)) }
         ensures stage { OnOk result
@@ -61,7 +61,7 @@ impl Link {
         Ok(lost)
     }
 
-    /// The session is over, of which the server was told: it is to close the connection.
+    /// The session is over and the server knows: it is to close the connection.
     pub fn linger(&mut self)
         ensures { self.new ≡ record self.old { stage = lingering self.old.stage } }
     {
@@ -71,7 +71,7 @@ impl Link {
     }
 }
 
-/// The end of a session is told to its uplink. Whether that gives it on.
+/// Ends a session's uplink. Returns whether the uplink passes that on.
 fn end(uplink: &mut Uplink) -> bool
     ensures { (given : Option UplinkInput) × GoesOn uplink.old Ended uplink.new
         (option_to_list given) [] × (result ≡ is_some given) }

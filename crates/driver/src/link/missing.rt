@@ -1,4 +1,4 @@
-//! What people are told where there is no server.
+//! What people are told when there is no server.
 ghost use Rattle.std.specs.Prelude.{◌≡◌, ◌++◌, IfOk, OnOk, decimal, option_map};
 ghost use Rattle.driver.specs.Missing.{missing, missing_text, seconds_of, try_in, try_text};
 
@@ -10,7 +10,7 @@ use itoa::Buffer;
 use std::alloc::{AllocError, Global};
 
 impl Link {
-    /// What people are told where there is no session: why, and when the server is tried again.
+    /// What people are told when there is no session: why, and when the server is tried again.
     pub fn missing(&self, now: &Now) -> Result<Option<Vec<u8>>, AllocError>
         ensures { IfOk result (λ text. option_map (λ text. text.items) text
             ≡ missing self.now.stage self.now.ended now.now.ms) }
@@ -24,7 +24,7 @@ impl Link {
         Ok(Some(text))
     }
 
-    /// How many milliseconds it takes until the server may be tried again. None where it is tried now.
+    /// How many milliseconds are left until the server may be tried again. None if it is being tried now.
     fn try_in(&self, now: &Now) -> Option<u64>
         ensures { result ≡ try_in self.now.stage now.now.ms }
     {
@@ -42,8 +42,8 @@ impl Link {
     }
 }
 
-/// What people are told where there is no server: why the last session ended, if there was one, and when the next is
-/// tried.
+/// What people are told when there is no server: why the last session ended, if there was one, and when the next try
+/// is.
 fn missing_text(
     alloc: Global,
     ended: Option<Ending>,
@@ -76,7 +76,7 @@ fn push_try(out: &mut Vec<u8>, try_in: Option<u64>) -> Result<(), AllocError>
     }
 }
 
-/// Milliseconds in seconds, rounded up.
+/// Milliseconds as seconds, rounded up.
 fn seconds_of(ms: u64) -> u64
     ensures { result ≡ seconds_of ms }
 {

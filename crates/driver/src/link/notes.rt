@@ -10,8 +10,8 @@ use node_notes::Note;
 use std::alloc::{AllocError, Global};
 use uplink::UplinkInput;
 
-/// The answer to the question by which a server is asked for a word (RFC 2812, 3.7.3).
-// nobody at a client asked
+/// The answer to the driver's PING (RFC 2812, 3.7.3).
+// no client asked for it
 const PONG: &[u8] = b"PONG";
 
 /// What an uplink gave, as notes to its node.
@@ -32,8 +32,8 @@ pub fn notes_of(
     Ok(notes)
 }
 
-/// What an uplink gave, as a note to its node; an answer to the driver's own question is none, nor a line that has no
-/// spelling.
+/// What an uplink gave, as a note to its node; the answer to the driver's own PING is none, nor is a line that cannot
+/// be encoded.
 fn note_of(now: &Now, input: UplinkInput) -> Option<TowerNote>
     ensures { option_to_list result ≡ note_of now.now.at input }
 {

@@ -27,8 +27,8 @@ impl Link {
         self.waiting.push(line)
     }
 
-    /// A channel waits to be joined again in the session: by the key by which it was joined last, or else by its key of
-    /// these.
+    /// A channel waits to be joined again in the session: by the key by which it was last joined, or else by its key in
+    /// this list.
     pub fn join(&mut self, channel: &[u8], keys: &[ChannelKey]) -> Result<(), AllocError>
         ensures { OnOk result (self.new ≡ joined keys.now channel.now self.old) }
     {
@@ -42,14 +42,14 @@ impl Link {
         self.absent.ask(channel)
     }
 
-    /// Whether a line that is said waits.
+    /// Whether a said line waits.
     pub fn has_said(&self) -> bool
         ensures { result ≡ has_said self.now.waiting }
     {
         self.waiting.has_said()
     }
 
-    /// What is said waits no longer. How many lines that were.
+    /// Drops said lines that wait. Returns how many there were.
     pub fn drop_said(&mut self) -> u64
         ensures count { result ≡ length self.old.waiting.said }
         ensures rest { self.new
@@ -60,7 +60,7 @@ impl Link {
         count
     }
 
-    /// What goes next, where something does: questions go where they are due. It waits no longer.
+    /// Takes the next piece, if there is one: questions only if they are due.
     pub fn next_piece(&mut self, are_due: bool) -> Option<Piece>
         ensures piece { result ≡ next_piece are_due self.old.waiting }
         ensures rest { self.new
@@ -69,7 +69,7 @@ impl Link {
         self.waiting.next(are_due)
     }
 
-    /// This goes to the server. Where a channel is asked for by a key, that is tried.
+    /// Sends a piece to the server. A key that it joins a channel by is tried.
     pub fn write(&mut self, piece: Piece, orders: &mut Orders) -> Result<(), AllocError>
         ensures sent { OnOk result (IsSent piece orders.old orders.new) }
         ensures keys { OnOk result

@@ -1,4 +1,4 @@
-//! A server that says nothing: it is asked for a word, and left where it gives none.
+//! A server that says nothing: it is sent a PING, and left if it does not answer.
 ghost use Rattle.std.specs.Prelude.{◌≡◌, OnOk};
 ghost use Rattle.driver.specs.Servers.{AsksForWord, is_mute, is_quiet, is_silent, is_unasked};
 
@@ -8,19 +8,19 @@ use crate::orders::Orders;
 use crate::timer::Timer;
 use std::alloc::AllocError;
 
-/// What a server is asked that says nothing (RFC 2812, 3.7.2).
+/// What a server that says nothing is sent (RFC 2812, 3.7.2).
 const PING: &[u8] = b"PING :hukbarg\r\n";
 
-/// After how long without a word a server is asked for one, and how long it has to give one, in milliseconds.
+/// How long a server may be silent before it is sent a PING, and how long it has to answer, in milliseconds.
 // Most servers send a PING every two minutes. One that is gone is noticed in 150 seconds.
 const QUIET: u64 = 75_000;
 
-/// How long a server may say nothing that has not given the session, in milliseconds.
+/// How long a server that has not given the session may be silent, in milliseconds.
 // some look up names and ports first
 const UNOPENED: u64 = 150_000;
 
-/// How long a server has to close a connection whose session it is told is over, in milliseconds.
-// it frees the nick as it does, and the next session asks for the same one
+/// How long a server has to close a connection after it was told that the session is over, in milliseconds.
+// closing frees the nick, and the next session asks for the same one
 pub const TIME_TO_CLOSE: u64 = 1000;
 
 impl Link {
@@ -35,7 +35,7 @@ impl Link {
         }
     }
 
-    /// A server that is quiet is asked for a word.
+    /// Sends a PING to a server that is quiet.
     pub fn ask_quiet(&mut self, now: &Now, orders: &mut Orders) -> Result<(), AllocError>
         ensures asks { OnOk result (AsksForWord (is_quiet self.old.stage now.now.ms) now.now.ms
             self.old.stage orders.old self.new.stage orders.new) }
@@ -55,14 +55,14 @@ impl Link {
 }
 
 impl Session {
-    /// Whether the server gave the session, said nothing for long, and was not asked for a word since.
+    /// Whether the server gave the session, was silent for long, and was sent no PING since.
     fn is_quiet(&self, now: &Now) -> bool
         ensures { result ≡ is_unasked self.now now.now.ms }
     {
         self.is_opened && self.asked.is_none() && self.heard.has_passed(QUIET, now.ms)
     }
 
-    /// Whether the server gave no word in the time that it has for one.
+    /// Whether the server said nothing in the time that it has to answer.
     fn is_mute(&self, now: &Now) -> bool
         ensures { result ≡ is_mute self.now.is_opened self.now.asked self.now.heard now.now.ms }
     {

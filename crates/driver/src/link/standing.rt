@@ -1,4 +1,4 @@
-//! How the session stands, and what waits to go out in it, in words.
+//! The state of the session, and what waits to go out in it, in words.
 ghost use Rattle.std.specs.Prelude.{◌≡◌, ◌++◌, IfOk, OnOk};
 ghost use Rattle.driver.specs.Standing.{more_text, server_text, stands_for, time_text, waiting_text};
 
@@ -25,7 +25,7 @@ impl Link {
         Ok(text)
     }
 
-    /// For how many milliseconds the session stands.
+    /// For how many milliseconds the session has been open.
     fn stands_for(&self, now: &Now) -> u64
         ensures { result ≡ stands_for self.now.stage now.now.ms }
     {
@@ -35,7 +35,7 @@ impl Link {
         }
     }
 
-    /// What waits to go out, where more waits in the log, or does not, and is being dropped, or is not.
+    /// What waits to go out, given whether more waits in the log, and whether it is being dropped.
     pub fn waiting(&self, waits_in_log: bool, drops: bool) -> Result<Vec<u8>, AllocError>
         ensures { IfOk result (λ text.
             text.items ≡ waiting_text self.now.waiting waits_in_log drops) }
@@ -50,7 +50,7 @@ impl Link {
     }
 }
 
-/// Whether more waits in the log, or is being dropped there, in words.
+/// In words: whether more waits in the log, or is being dropped there.
 fn more_text(waits_in_log: bool, drops: bool) -> &'static [u8]
     ensures { result.now ≡ more_text waits_in_log drops }
 {
@@ -63,7 +63,7 @@ fn more_text(waits_in_log: bool, drops: bool) -> &'static [u8]
     }
 }
 
-/// Appends milliseconds in hours and minutes.
+/// Appends milliseconds as hours and minutes.
 fn push_time(out: &mut Vec<u8>, ms: u64) -> Result<(), AllocError>
     ensures { OnOk result (out.new.items ≡ out.old.items ++ time_text ms) }
 {

@@ -1,4 +1,4 @@
-//! What the clock tells a node, and when.
+//! The notes that the clock sends to a node, and when.
 ghost use Rattle.std.specs.Prelude.{◌≡◌, OnOk, Some, None, if◌then◌else◌, is_some};
 ghost use Rattle.node_notes.specs.declared.note.Note.TheVariants.{Beat};
 ghost use Rattle.driver.specs.Dropping.{has_waiting};
@@ -20,8 +20,8 @@ use wire_bytes::{Number, SessionId};
 const APART: u64 = 50;
 
 impl NodeMonitor {
-    /// Time passed, or something was heard of the node: a leader sends now and then, a node that heard of
-    /// no leader asks for votes, and one that is down is started again.
+    /// Time passed, or a report of the node came: a leader sends now and then, a node that heard of no leader asks for
+    /// votes, and one that is down is started again.
     #[tactic(auto, unfolding(crate::specs::Monitors::note_for, crate::specs::Monitors::note_up, crate::specs::Monitors::monitor_behind))]
     pub fn tick(
         &mut self,
@@ -58,8 +58,8 @@ impl NodeMonitor {
         Ok(())
     }
 
-    /// A leader sends where it was not told to for a while; at most one such note waits. On news it sends
-    /// by itself.
+    /// A leader sends if it got no note to send for a while; at most one such note waits. When it has news it sends by
+    /// itself.
     fn tick_leader(
         &mut self,
         now: &Now,
@@ -82,7 +82,7 @@ impl NodeMonitor {
         Ok(())
     }
 
-    /// Whether it is to send, where it leads.
+    /// Whether it is to send, if it leads.
     fn is_to_beat(&self, now: &Now, settings: &Settings) -> bool
         ensures { result ≡ is_to_beat self.now settings.now now.now.ms }
     {
@@ -90,8 +90,8 @@ impl NodeMonitor {
             && self.beat.note <= self.progress.done
     }
 
-    /// The next line is claimed for the session, where the node has one, and where one may be claimed.
-    /// The same claim is told again only behind a while, and where it is known not to be in the log.
+    /// Claims the next line for the session, if the node has one and a line may be claimed. The same claim is repeated
+    /// only after a while, and only once it is known not to be in the log.
     pub fn claim(
         &mut self,
         now: &Now,
@@ -121,7 +121,7 @@ impl NodeMonitor {
         Ok(())
     }
 
-    /// The line that is to be claimed, if there is one whose claim may not still stand.
+    /// The line to claim, if there is one without an earlier claim that may still be in the log.
     #[tactic(auto, unfolding(crate::specs::Monitors::claim_due))]
     fn claim_due(&self, now: &Now, settings: &Settings) -> Option<(SessionId, Number)>
         ensures { result ≡ claim_due self.now settings.now now.now.ms }
@@ -133,7 +133,7 @@ impl NodeMonitor {
         }
     }
 
-    /// Whether a line is to be claimed, at this moment or later.
+    /// Whether there is a line to claim, now or later.
     pub fn has_line(&self) -> bool
         ensures { result ≡ is_some (line_to_claim self.now.status) }
     {
@@ -150,7 +150,7 @@ impl NodeMonitor {
         }
     }
 
-    /// The session that the node holds, and the number of the line that is to be claimed next.
+    /// The session that the node holds, and the number of the next line to claim.
     fn line_to_claim(&self) -> Option<(SessionId, Number)>
         ensures { result ≡ line_to_claim self.now.status }
     {
@@ -162,7 +162,7 @@ impl NodeMonitor {
 }
 
 impl Claimed {
-    /// Whether it is of this line, and may be in the log, or was told not so long ago.
+    /// Whether the claim is of this line, and may be in the log or was made not long ago.
     fn is_of(&self, now: &Now, settings: &Settings, session: SessionId, number: Number) -> bool
         ensures { result ≡ is_claimed (Some self.now) settings.now.timeout_ms now.now.ms
             session number }

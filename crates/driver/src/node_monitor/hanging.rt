@@ -1,4 +1,4 @@
-//! A node that hangs: it is up, as far as is known, and answers nothing.
+//! A node that hangs: it is up, as far as is known, and does not answer.
 ghost use Rattle.std.specs.Prelude.{◌≡◌, ◌∷◌, [], OnOk};
 ghost use Rattle.driver.specs.declared.news.News.TheVariants.{Hangs};
 ghost use Rattle.driver.specs.declared.order.Order.TheVariants.{Log};
@@ -14,29 +14,29 @@ use crate::settings::Settings;
 use std::alloc::AllocError;
 use wire_bytes::Number;
 
-/// After how long without an answer a node counts as one that hangs, in milliseconds.
-// A sync of a disk that is merely slow takes less, and who waits longer takes the bouncer for dead.
+/// How long a node may give no answer before it counts as hanging, in milliseconds.
+// A sync of a disk that is merely slow takes less, and someone who waits longer thinks that the bouncer is dead.
 const HANGS_AFTER: u64 = 5_000;
 
-/// How many timeouts that is at least: nodes whose leader seldom sends have less to tell.
+/// The least number of timeouts for that: nodes whose leader seldom sends have less to report.
 const TIMEOUTS: u64 = 2;
 
-/// How long a node may answer nothing, in milliseconds, that goes on all the same: at least a timeout.
-// One that is silent for longer may hang as well, so that nobody is sent to it from another.
+/// How long a working node may give no answer, in milliseconds: at least a timeout.
+// One that is silent for longer may hang as well, so nobody is sent to it from another.
 const QUIET_AFTER: u64 = 2_000;
 
-/// How long a node that is down waits at most while too few nodes are up, in milliseconds.
-// Nothing can be agreed meanwhile, so that a try costs nothing that matters.
+/// The longest wait of a node that is down while too few nodes are up, in milliseconds.
+// Nothing can be agreed meanwhile, so a try costs nothing that matters.
 const SHORT_WAIT: u32 = 2_000;
 
-/// After how long without an answer a node counts as one that hangs, in milliseconds.
+/// How long a node may give no answer before it counts as hanging, in milliseconds.
 pub fn hang_limit(settings: &Settings) -> u64
     ensures { result ≡ hang_limit settings.now.timeout_ms }
 {
     HANGS_AFTER.max(TIMEOUTS * settings.timeout_ms as u64)
 }
 
-/// How long a node may answer nothing that goes on all the same, in milliseconds.
+/// How long a working node may give no answer, in milliseconds.
 pub fn quiet_limit(settings: &Settings) -> u64
     ensures { result ≡ quiet_limit settings.now.timeout_ms }
 {
@@ -44,14 +44,14 @@ pub fn quiet_limit(settings: &Settings) -> u64
 }
 
 impl NodeMonitor {
-    /// Whether it serves nobody at this moment: it is down, or has answered nothing for so many milliseconds.
+    /// Whether it serves nobody at this moment: it is down, or has given no answer for this many milliseconds.
     pub fn is_absent(&self, now: &Now, limit: u64) -> bool
         ensures { result ≡ is_absent limit now.now.ms self.now }
     {
         self.down.is_some() || self.presence.last_report.has_passed(limit, now.ms)
     }
 
-    /// The run in which it hangs, where it does and its clients were not told: it was up when it was last heard of.
+    /// The run in which it hangs, if it does and its clients were not told: it was up when it was last heard from.
     pub fn begins_to_hang(&self, now: &Now, settings: &Settings) -> Option<Number>
         ensures { result ≡ begins_to_hang settings.now.timeout_ms now.now.ms self.now }
     {
@@ -61,20 +61,20 @@ impl NodeMonitor {
         self.boot()
     }
 
-    /// It hangs in this run: an operator is told, and it takes no clients until it begins another run.
+    /// It hangs in this run: that is logged, and it takes no clients until another run of it begins.
     pub fn hang(&mut self, boot: Number, orders: &mut Orders) -> Result<(), AllocError>
         ensures told { OnOk result
             (orders.new ≡ ordered orders.old (Log (Hangs self.old.id) ∷ [])) }
         ensures monitor { self.new ≡ hanging boot self.old }
     {
         self.presence.is_hanging = true;
-        // that it takes no clients is said by that
+        // the log line already says that it takes no clients
         self.visitors.has_turned_away = true;
         self.see(boot);
         orders.log(News::Hangs(self.id))
     }
 
-    /// Whether its clients were told that it hangs, and no run of it began since.
+    /// Whether its clients were told that it hangs, and no run of it has begun since.
     pub fn is_hanging(&self) -> bool
         ensures { result ≡ self.now.presence.is_hanging }
     {
@@ -91,7 +91,7 @@ impl NodeMonitor {
         self.boot()
     }
 
-    /// Too few nodes are up: where it is down, it is started again soon.
+    /// Too few nodes are up: if it is down, it is started again soon.
     pub fn hasten(&mut self)
         ensures { self.new ≡ hastened self.old }
     {

@@ -1,4 +1,4 @@
-//! What a node's worker tells of how the node stands.
+//! What a node's worker reports about the node.
 ghost use Rattle.std.specs.Prelude.{◌≡◌, ◌++◌, ◌&&◌, IfOk, OnOk, None, Some};
 ghost use Rattle.driver.specs.Hearing.{answers_news, down_behind, down_news, elected_news, heard_behind, heard_news};
 ghost use Rattle.driver.specs.Hearing.{heard_of, is_new_run, is_raised, led_in, up_behind, up_news};
@@ -17,21 +17,21 @@ use raft_node::Cause;
 use std::alloc::AllocError;
 use wire_bytes::Number;
 
-/// How long a node has to be up so that what failed before does not count any more, in milliseconds: one
-/// that fails again and again within a minute is started less and less often.
+/// How long a node has to be up until earlier failures no longer count, in milliseconds: one that fails again and again
+/// within a minute is started less and less often.
 const GOOD_RUN: u64 = 60_000;
 
-/// What is new of a node that was heard of.
+/// What is new in a node's report.
 #[derive(Clone, Copy)]
 pub struct Heard {
     /// A run of it began.
     pub is_new: bool,
-    /// Requests that it was told may be lost, and were not known to be.
+    /// Requests sent to it may be lost, and were not known to be.
     pub has_lost: bool,
 }
 
 impl NodeMonitor {
-    /// The node's worker told how the node stands, and how far the worker is. What is new of it.
+    /// The node's worker reported the node's state, and how far the worker is. Returns what is new.
     pub fn hear(
         &mut self,
         now: &Now,
@@ -63,8 +63,8 @@ impl NodeMonitor {
         Ok(Heard { is_new, has_lost })
     }
 
-    /// A leader was heard of, or the term of a node that follows rose, so that it may have granted its vote:
-    /// it waits anew for a leader.
+    /// A leader was heard of, or the term of a following node rose, so that it may have granted its vote: it waits anew
+    /// for a leader.
     fn hear_term(&mut self, now: &Now, status: &Status, led: bool)
         ensures { self.new ≡ waiting_behind self.old now.now.ms status.now led }
     {
@@ -89,7 +89,7 @@ impl NodeMonitor {
         }
     }
 
-    /// Whether this is of another run than what was heard before.
+    /// Whether this is of another run than the last report.
     fn is_new_run(&self, status: &Status) -> bool
         ensures { result ≡ is_new_run self.now.status status.now }
     {
@@ -99,7 +99,7 @@ impl NodeMonitor {
         }
     }
 
-    /// Whether it was heard before that it leads in this term.
+    /// Whether an earlier report said that it leads in this term.
     fn led_in(&self, term: Number) -> bool
         ensures { result ≡ led_in self.now.status term }
     {
@@ -109,7 +109,7 @@ impl NodeMonitor {
         }
     }
 
-    /// Whether it was up when it was last heard of.
+    /// Whether it was up when it was last heard from.
     fn is_up(&self) -> bool
         ensures { result ≡ was_up self.now.status }
     {
@@ -119,7 +119,7 @@ impl NodeMonitor {
         }
     }
 
-    /// One that leads, and was not heard to lead in this term, was elected.
+    /// A node that leads, and did not lead in this term before, was elected.
     fn hear_leading(&self, status: &Status, orders: &mut Orders) -> Result<(), AllocError>
         ensures { OnOk result (orders.new
             ≡ ordered orders.old (elected_news self.now status.now)) }
@@ -130,8 +130,8 @@ impl NodeMonitor {
         Ok(())
     }
 
-    /// It is down: it is started again behind a wait from the first word of it on, and behind the first
-    /// wait again where it was up for a minute.
+    /// It is down: it is started again after a wait from the first report of it on, and after the shortest wait if it
+    /// was up for a minute.
     fn hear_down(&mut self, now: &Now, cause: Cause, orders: &mut Orders) -> Result<(), AllocError>
         ensures told { OnOk result (orders.new
             ≡ ordered orders.old (down_news self.old.id cause self.old.down)) }
@@ -148,8 +148,7 @@ impl NodeMonitor {
         orders.log(News::Down(self.id, cause))
     }
 
-    /// It is up. One that hung takes clients again in a new run alone, since the run that hung is over for the
-    /// others.
+    /// It is up. One that hung takes clients again only in a new run, since for the others the run that hung is over.
     fn hear_up(
         &mut self,
         now: &Now,
@@ -180,7 +179,7 @@ impl NodeMonitor {
     }
 }
 
-/// What is known of the last claim of a node that stands so, and of which so many notes are done.
+/// What is known of the last claim of a node, given its state and how many of its notes are done.
 fn settled(claimed: Option<Claimed>, status: &Status, done: u64) -> Option<Claimed>
     ensures { result ≡ settled claimed status.now done }
 {
@@ -192,8 +191,8 @@ fn settled(claimed: Option<Claimed>, status: &Status, done: u64) -> Option<Claim
     })
 }
 
-/// How far a worker is that was told so many notes, by what was known of it and what it tells: it never
-/// goes back, and is never further than it was told.
+/// How far a worker with this many notes is, by what was known and what it reports: it never goes back, and is never
+/// further than its notes.
 fn progressed(known: &Progress, told: u64, heard: &Progress) -> Progress
     ensures { result ≡ progressed known.now told heard.now }
 {

@@ -1,4 +1,4 @@
-//! Whether more is read that is for a node.
+//! Whether more is read for a node.
 ghost use Rattle.std.specs.Prelude.{◌≡◌};
 ghost use Rattle.driver.specs.Rosters.{is_read_for};
 
@@ -6,7 +6,7 @@ use crate::node_monitor::{MOST_NODES, NodeMonitor};
 use crate::orders::Orders;
 use raft_log::NodeId;
 
-/// Whether fewer notes of a node wait than may, if it is for one.
+/// Whether a node has room for more notes, if there is a node.
 pub fn reads_for(
     monitors: &[NodeMonitor; MOST_NODES],
     orders: &Orders,

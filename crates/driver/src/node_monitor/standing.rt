@@ -1,4 +1,4 @@
-//! What belongs together of what is known of a node.
+//! Parts of what is known of a node.
 ghost use Rattle.std.specs.Prelude.{◌≡◌};
 ghost use Rattle.driver.specs.Monitors.{is_over, outage};
 
@@ -10,11 +10,11 @@ use wire_bytes::{Number, SessionId};
 pub struct Following {
     /// When it last heard of a leader, or asked for votes.
     pub last_leader_contact: Timer,
-    /// It waited anew for a node that asks for votes, since it last heard of a leader or asked itself.
+    /// It has waited anew for another node that asks for votes, since it last heard of a leader or asked itself.
     pub has_yielded: bool,
 }
 
-/// The last time that a node was told to send as a leader.
+/// The last time that a leading node was asked to send.
 #[derive(Clone, Copy)]
 pub struct LastBeat {
     /// When, and by which of its notes.
@@ -22,7 +22,7 @@ pub struct LastBeat {
     pub note: u64,
 }
 
-/// The last claim that a node was told.
+/// The last claim that a node was asked for.
 #[derive(Clone, Copy)]
 pub struct Claimed {
     pub session: SessionId,
@@ -30,21 +30,21 @@ pub struct Claimed {
     /// When, and by which of the node's notes.
     pub at: Timer,
     pub note: u64,
-    /// Its note is done, and all of the node's log was applied since: it is applied, or is not in the log.
+    /// Its note is done, and all of the node's log has been applied since: it is applied, or is not in the log.
     pub is_settled: bool,
 }
 
 /// That a node is down.
 #[derive(Clone, Copy)]
 pub struct Outage {
-    /// Since when, or when it was last told to start again.
+    /// Since when, or when it was last asked to start again.
     pub since: Timer,
-    /// How long from then until it is told to start again, in milliseconds.
+    /// How long from then until it is asked to start again, in milliseconds.
     pub wait_ms: u32,
 }
 
 impl Outage {
-    /// A node is told to start again so long from now on.
+    /// A node is to start again this long from now on.
     pub fn from(now: u64, wait_ms: u32) -> Outage
         ensures { result ≡ outage now wait_ms }
     {
@@ -54,7 +54,7 @@ impl Outage {
         }
     }
 
-    /// Whether the node is to be told to start again.
+    /// Whether it is time to start the node again.
     pub fn has_waited(&self, now: u64) -> bool
         ensures { result ≡ is_over self.now.since self.now.wait_ms now }
     {
@@ -65,11 +65,11 @@ impl Outage {
 /// When a node was up.
 #[derive(Clone, Copy)]
 pub struct Presence {
-    /// When it last told that it is up.
+    /// When it last reported that it is up.
     pub last_report: Timer,
     /// When it last came up.
     pub up: Timer,
-    /// It was up, and has answered nothing for so long since that its clients were told.
+    /// It was up, and has not answered since for so long that its clients were told.
     pub is_hanging: bool,
 }
 
@@ -78,6 +78,6 @@ pub struct Presence {
 pub struct Visitors {
     /// The greatest boot in the origin of one, if there was one.
     pub greatest_boot: Option<Number>,
-    /// An operator was told that one was turned away, since the node was last up.
+    /// It was logged that one was turned away, since the node was last up.
     pub has_turned_away: bool,
 }

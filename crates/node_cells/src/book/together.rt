@@ -1,4 +1,4 @@
-//! How a book takes in several events, one after the other.
+//! How a book notes several events, one after the other.
 ghost use Rattle.std.specs.Prelude.{◌≡◌, ◌≤◌, ◌+◌, length, suc, true};
 ghost use Rattle.ether.specs.Passes.{view_of};
 ghost use Rattle.node_cells.specs.Books.{room_for};
@@ -78,7 +78,7 @@ impl<M: Hosted> Book<M> {
         }
     }
 
-    /// The events of a restart of a node that went down as these inputs were saved together.
+    /// The events of a restart of a node that went down while these inputs were saved together.
     fn note_stop(
         &mut self,
         mut inputs: Vec<ToldInput<M::Command, M::Line, M::Target>>,

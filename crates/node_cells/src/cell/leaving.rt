@@ -12,15 +12,15 @@ use raft_node::Described;
 use stable_store::Stable;
 
 impl<M: Marking, S: Stable<M::Command>, U: Upstream> NodeCell<M, S, U> {
-    /// The record of the node's turns, empty where they were not recorded, and the line of the state that
-    /// the cell shows.
+    /// The record of the node's turns, empty if they were not recorded, and the fields of the state that the cell
+    /// shows.
     pub fn close(self) -> NodeRecord<M::Command, M::Line, M::Target, M::Effect, M::Played>
         ensures { IsClosed (⟦<M as Described>⟧.machine self.parts.ether.setup) self.parts result }
     {
         self.leave().1
     }
 
-    /// What `close` gives, beside the cell's pass.
+    /// What `close` gives, together with the cell's pass.
     pub fn leave(
         self,
     ) -> (

@@ -16,10 +16,10 @@ use wire_bytes::{LAST_NUMBER, Mark, Number};
 use world_views::NodeInput;
 
 impl<M: Marking, S: Stable<M::Command>, U: Upstream> NodeCell<M, S, U> {
-    /// Asks for the next mark of this run, one more than the greatest that it asked, and answers its number
-    /// and what came of the turn. A mark that the node refuses to ask for, as where it knows no leader, was
-    /// asked all the same: its number is used up. `Spent` where the number would pass 2^60, too. A mark that
-    /// was asked for may still be lost on its way.
+    /// Asks for the next mark of this run, one more than the greatest that it asked for, and returns its number and the
+    /// result of the turn. A mark that the node refuses to ask for, such as when it knows no leader, was asked for all
+    /// the same: its number is used up. `Spent` also if the number would pass 2^60. A mark that was asked for may still
+    /// be lost on its way.
     pub fn mark(&mut self) -> Result<MarkTurn<M::Command, M::Effect>, CellFault>
         ensures mark { HasMarked (⟦<M as Described>⟧.machine self.old.parts.ether.setup) U.tally
             M.marked M.mark self.old.parts result self.new.parts }
@@ -42,8 +42,8 @@ impl<M: Marking, S: Stable<M::Command>, U: Upstream> NodeCell<M, S, U> {
         }
     }
 
-    /// A playback of a target, as `look` gives it, once the node has applied a mark of this run with this
-    /// number or a larger one. Until then it answers `Behind`, which is no event.
+    /// A playback of a target, as `look` gives it, once the node has applied a mark of this run with this number or a
+    /// larger one. Until then the answer is `Behind`, which is no event.
     pub fn look_after(
         &mut self,
         number: u64,

@@ -20,8 +20,8 @@ use world_run::Outcome;
 use world_views::NodeEvent;
 
 impl<M: Marking, S: Stable<M::Command>, U: Upstream> NodeCell<M, S, U> {
-    /// A playback of a target, where what was applied reaches to this place; else `Behind`. Both are
-    /// events that change nothing. Where there is no memory it is none.
+    /// A playback of a target, once the node has applied up to this place; else `Behind`. Both are events that change
+    /// nothing. If memory runs out there is no event.
     pub fn look(
         &mut self,
         from_place: u64,
@@ -38,7 +38,7 @@ impl<M: Marking, S: Stable<M::Command>, U: Upstream> NodeCell<M, S, U> {
         self.play(self.recording(), from_place, target)
     }
 
-    /// A look at a node that is up, where there is room for it.
+    /// A look at a node that is up, when there is room for it.
     fn play(
         &mut self,
         recording: Recording,

@@ -52,7 +52,7 @@ impl<M: Marking, S: Stable<M::Command>, U: Upstream> NodeCell<M, S, U> {
         self.book.recording
     }
 
-    /// The line of the state that the cell shows.
+    /// The fields of the state that the cell shows.
     pub fn fields(&self) -> NodeFields
         ensures shown { result ≡ self.now.parts.shown }
         ensures view { (view_in self.now.parts).honest ≡ true
@@ -61,7 +61,7 @@ impl<M: Marking, S: Stable<M::Command>, U: Upstream> NodeCell<M, S, U> {
         self.shown
     }
 
-    /// The node's state, or where it is down the one from before what took it down.
+    /// The node's state, or, if it is down, the one from before it went down.
     #[tactic(auto, using(crate::proofs::Showing::is_up))]
     pub fn state(&self) -> &NodeState<M::Command>
         ensures state { result.now ≡ self.now.parts.node.state }
@@ -71,7 +71,7 @@ impl<M: Marking, S: Stable<M::Command>, U: Upstream> NodeCell<M, S, U> {
         self.node.state()
     }
 
-    /// The number of the line that is to be claimed next, by what the node applied, while it is up.
+    /// The number of the line to be claimed next, by what the node applied, while it is up.
     pub fn next_claim(&self) -> Option<Number>
         ensures { self.now.parts.node.down ≡ None
             → result ≡ M.next_claim self.now.parts.node.setup

@@ -21,10 +21,9 @@ use std::mem::replace;
 use wire_bytes::Number;
 
 impl<M: Marking, S: Stable<M::Command>, U: Upstream> NodeCell<M, S, U> {
-    /// The node stops, and is started again over its store: one event, or one for each input of those that
-    /// were saved together, and one more for each earlier start that failed after it saved its run. What it
-    /// had in memory tells whether the store kept the turns in which it went down. Its next run has asked
-    /// for no mark, and applied none.
+    /// The node stops, and is started again over its store: one event, or one for each input of those that were saved
+    /// together, and one more for each earlier start that failed after it saved its run. What it had in memory shows
+    /// whether the store kept the turns in which it went down. Its next run has asked for no mark, and applied none.
     pub fn restart(&mut self) -> Result<(), CellFault>
         ensures restart { HasRestarted (⟦<M as Described>⟧.machine self.old.parts.ether.setup)
             self.old.parts result self.new.parts }
@@ -39,7 +38,7 @@ impl<M: Marking, S: Stable<M::Command>, U: Upstream> NodeCell<M, S, U> {
         self.start_again(&before)
     }
 
-    /// The node is started again, where there is room for what that may publish.
+    /// Starts the node again, when there is room for what that may publish.
     fn start_again(&mut self, before: &Remembered) -> Result<(), CellFault>
         requires before { Remembers before.now self.old.parts.node.state }
         requires room { (room_for self.old.parts.recording

@@ -24,8 +24,8 @@ use std::sync::Arc;
 use wire_bytes::Number;
 
 impl<M: Marking, S: Stable<M::Command>, U: Upstream> NodeCell<M, S, U> {
-    /// The opening: the node of the pass is started over its store. Where it fails all is dropped. Whether
-    /// its turns are recorded stays so until the cell is closed.
+    /// The opening: the node of the pass is started over its store. If that fails all is dropped. Whether turns are
+    /// recorded stays the same until the cell is closed.
     pub fn open(
         alloc: Global,
         ether: Arc<Ether<M>, Global>,
@@ -45,7 +45,7 @@ impl<M: Marking, S: Stable<M::Command>, U: Upstream> NodeCell<M, S, U> {
         }
     }
 
-    /// The cell of a node that was started, which is opened by this.
+    /// Opens the cell of a node that was started.
     pub(crate) fn over(
         alloc: Global,
         ether: Arc<Ether<M>, Global>,
@@ -85,7 +85,7 @@ impl<M: Marking, S: Stable<M::Command>, U: Upstream> NodeCell<M, S, U> {
     }
 }
 
-/// The node of a pass, started over a store. Where it fails the store is dropped.
+/// The node of a pass, started over a store. If that fails the store is dropped.
 pub fn start_node<M: Hosted, S: Stable<M::Command>>(
     alloc: Global,
     ether: &Arc<Ether<M>, Global>,

@@ -1,4 +1,4 @@
-//! How a cell's node that leads does several inputs by one save.
+//! How a cell's leading node processes several inputs with one save.
 ghost use Rattle.std.specs.Prelude.{◌≡◌, ◌≤◌, ◌+◌, IfErr, IfOk, length, map, true};
 ghost use Rattle.raft_log.specs.Batches.{batch_limit};
 ghost use Rattle.raft_log.specs.Node.{is_leader};
@@ -31,11 +31,11 @@ use wire_bytes::Number;
 use world_views::NodeInput;
 
 impl<M: Marking, S: Stable<M::Command>, U: Upstream> NodeCell<M, S, U> {
-    /// Inputs that only append, one after the other at a node that leads, saved at once: an event for
+    /// Inputs that only append, processed one after the other at a node that leads, and saved at once: an event for
     /// each, with its own ticket and its own answer. Nothing is posted and nothing handed out.
     ///
-    /// Room in the record and tickets are settled for all of them first, and then a copy of each is
-    /// made, where turns are recorded: where that is refused, the cell is as it was.
+    /// Room in the record and tickets for all of them come first, then a copy of each, if turns are
+    /// recorded: if memory runs out there, the cell is unchanged.
     pub fn turn_all(
         &mut self,
         inputs: Vec<NodeInput<M::Command, M::Line>>,
@@ -68,8 +68,8 @@ impl<M: Marking, S: Stable<M::Command>, U: Upstream> NodeCell<M, S, U> {
         self.run_all(told, copies, taken, asked)
     }
 
-    /// Inputs of a node that is up and leads, where there is room for them. The copies are for the record,
-    /// and `asked` is the greatest number of a mark that was asked once they are done.
+    /// Inputs of a node that is up and leads, when there is room for them. The copies are for the record, and `asked`
+    /// is the greatest number of a mark that was asked for once they are done.
     fn run_all(
         &mut self,
         told: Vec<ToldInput<M::Command, M::Line, M::Target>>,

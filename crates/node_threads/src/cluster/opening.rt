@@ -1,4 +1,4 @@
-//! The workers of a cluster, whose nodes are opened before a thread begins, where their stores are there.
+//! The workers of a cluster. A node whose store is there is opened before any thread begins.
 ghost use Rattle.std.specs.Prelude.{◌≡◌, ◌<◌, ◌≤◌, [], suc, length, IfOk, IfErr};
 ghost use Rattle.std.specs.Arc.{arc_value};
 ghost use Rattle.node_threads.specs.declared.cluster_fault.ClusterFault.TheVariants.{Memory};
@@ -131,7 +131,7 @@ fn begin_worker<
     })
 }
 
-/// The node of a new pass: opened, where its store is there.
+/// The node of a new pass: opened, if its store is there.
 fn place_of<M: Marking, S: Stable<M::Command>, U: Upstream, L: Opener<S>>(
     alloc: Global,
     ether: Arc<Ether<M>, Global>,
@@ -160,7 +160,7 @@ fn place_of<M: Marking, S: Stable<M::Command>, U: Upstream, L: Opener<S>>(
     }
 }
 
-/// The end of this node's inbox from which its worker takes.
+/// The receiving end of this node's inbox.
 fn outbox_of<J: Drop>(ends: &Inboxes<J>, id: NodeId) -> Result<Receiver<J>, ClusterFault>
     requires { id ≤ length ends.now.outboxes.items }
     ensures { IfErr result (λ e. e ≡ Memory) }
@@ -172,7 +172,7 @@ fn outbox_of<J: Drop>(ends: &Inboxes<J>, id: NodeId) -> Result<Receiver<J>, Clus
     }
 }
 
-/// What the worker of this node has beside the node and its inbox.
+/// What the worker of this node has besides the node and its inbox.
 fn worker_loop<M: Marking, G: Drop, O: Outlet<M::Effect>>(
     alloc: Global,
     id: NodeId,
@@ -207,7 +207,7 @@ fn worker_loop<M: Marking, G: Drop, O: Outlet<M::Effect>>(
     })
 }
 
-/// Inboxes that lead where these do.
+/// More senders to the same inboxes.
 fn clones<T: Drop>(inboxes: &Vec<Sender<T>>) -> Result<Vec<Sender<T>>, ClusterFault>
     ensures { IfErr result (λ e. e ≡ Memory) }
 {

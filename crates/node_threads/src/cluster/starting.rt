@@ -43,7 +43,7 @@ where
     U: Upstream + Send + 'static,
 {
     /// Starts as many nodes as the group has, each over the store of its part, node 1's first. All
-    /// are opened before the first thread begins. Where one can't be started, what was started is
+    /// are opened before the first thread begins. If one can't be started, what was started is
     /// joined, and the parts are dropped.
     pub fn start<R, G, O>(
         rt: &R,
@@ -82,14 +82,14 @@ where
     U: Upstream + Send + 'static,
     L: Opener<S> + Send + 'static,
 {
-    /// Starts as many nodes as the group has, node 1's first, of which some have no store yet. Those that have
-    /// one are opened over it before the first thread begins; where one of them can't be started, what was
-    /// started is joined, and the parts are dropped.
+    /// Starts as many nodes as the group has, node 1's first; some of them have no store yet. Those that have one are
+    /// opened over it before the first thread begins; if one of them can't be started, what was started is joined, and
+    /// the parts are dropped.
     ///
-    /// A node that has none is down. Its worker tells that at once, and each time it is told `Note::Restart`, or
-    /// `NodeHandle::restart` is called, it asks the opener of the node's part for the store, opens the node
-    /// over it, and from then on works as every other. Until then a request that it is told waits, as at any
-    /// node that is down; what else it is told does nothing, and tells `Down`; and its mailboxes are not taken.
+    /// A node without a store is down. Its worker reports that at once, and at each `Note::Restart` or
+    /// `NodeHandle::restart` it asks the opener of the node's part for the store, opens the node over it, and from then
+    /// on works like every other. Until then a request waits, as at any node that is down; any other note does nothing
+    /// and reports `Down`; and its mailboxes are not taken.
     pub fn start_late<R, G, O>(
         rt: &R,
         alloc: Global,
@@ -119,7 +119,7 @@ where
         Cluster::begin(rt, alloc, workers, ends.inboxes, closing)
     }
 
-    /// The threads of all workers begin. Where one can't be had, the others are joined.
+    /// Starts the threads of all workers. If one can't be had, the others are joined.
     fn begin<R, G, O>(
         rt: &R,
         alloc: Global,
@@ -184,7 +184,7 @@ struct Ground<M: Marking> {
     ends: Inboxes<Job<M>>,
 }
 
-/// What so many nodes share.
+/// What the nodes of a group of this size share.
 fn make_ground<M: Marking>(
     alloc: Global,
     size: GroupSize,
@@ -243,7 +243,7 @@ fn all_ready<S: Drop, U: Drop, O: Drop>(
     Ok(all)
 }
 
-/// No fault, where there are as many parts as nodes.
+/// No fault if there are as many parts as nodes.
 fn unpaired(size: GroupSize, parts: usize) -> Result<(), ClusterFault>
     ensures paired { IfOk result (λ _. parts ≡ size) }
     ensures unpaired { IfErr result (IsUnpaired size parts) }
@@ -258,7 +258,7 @@ fn unpaired(size: GroupSize, parts: usize) -> Result<(), ClusterFault>
     Ok(())
 }
 
-/// All workers end, and are joined.
+/// Ends all workers, and joins them.
 fn call_off<R: Threads + Wait, M: Marking, S: Stable<M::Command>, U: Upstream, L: Opener<S>>(
     rt: &R,
     inboxes: &[Sender<Job<M>>],

@@ -19,13 +19,13 @@ use wire_bytes::Copied;
 const MOST_LOOKS: u64 = 100_000;
 
 impl<M: Hosted, I: Inbox<Job<M>>> NodeHandle<'_, M, I> {
-    /// A playback of a target, which shows all that any node had committed when this was called: the
-    /// node marks a place, and is looked at once it has applied its mark.
+    /// A playback of a target that shows all that any node had committed when this was called: the node marks a place,
+    /// and is looked at once it has applied its mark.
     ///
-    /// A new mark is asked for where the node knows no leader, and after each 100,000 looks that
-    /// come too early, since a mark may be lost on its way to the leader. It does not return
-    /// before. Another thread has to tell the leader to beat meanwhile, as by an `Inlet`: no list
-    /// is agreed on without.
+    /// A new mark is asked for if the node knows no leader, and after each 100,000 looks that come
+    /// too early, since a mark may be lost on its way to the leader. It does not return before
+    /// that. Another thread has to send the leader beats meanwhile, as by an `Inlet`: nothing is
+    /// agreed on without them.
     pub fn confirmed(
         &self,
         rt: &impl Wait,
@@ -46,7 +46,7 @@ impl<M: Hosted, I: Inbox<Job<M>>> NodeHandle<'_, M, I> {
         Err(ClusterFault::Stopped)
     }
 
-    /// A look at the node's next mark, or a fault where it is not applied for so many looks.
+    /// A look at the node's next mark, or a fault if that is not applied after the most looks.
     fn look_at_mark(
         &self,
         rt: &impl Wait,
@@ -103,7 +103,7 @@ fn is_early<T>(outcome: &Result<T, ClusterFault>) -> bool
     }
 }
 
-/// Whether a fault says that the node knows no leader, or that it has not applied so much.
+/// Whether a fault says that the node knows no leader, or that it has not applied enough.
 fn comes_early(fault: &ClusterFault) -> bool
     ensures { result ≡ comes_early fault.now }
 {

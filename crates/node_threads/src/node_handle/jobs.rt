@@ -1,4 +1,4 @@
-//! The jobs that calls of a node make, each with where its answer comes.
+//! The jobs of calls of a node, each with where its answer comes.
 ghost use Rattle.std.specs.Prelude.{◌≡◌, IfErr, IfOk};
 ghost use Rattle.node_threads.specs.declared.cluster_fault.ClusterFault.TheVariants.{Memory};
 ghost use Rattle.node_threads.specs.Jobs.{IsLookAt, IsLookBehind, IsMarkJob, IsRestartJob, IsStatusJob};
@@ -28,7 +28,7 @@ pub fn look_job<M: Hosted>(
     Ok((Job::Look(from_place, target, reply), answer))
 }
 
-/// A look at a target behind the mark of this number.
+/// A look at a target after the mark of this number.
 pub fn late_look_job<M: Hosted>(
     alloc: Global,
     number: u64,
@@ -63,7 +63,7 @@ pub fn restart_job<M: Hosted>(
     Ok((Job::Restart(reply), answer))
 }
 
-/// The question how a node stands.
+/// The question for the state of a node.
 pub fn status_job<M: Hosted>(alloc: Global) -> Result<(Job<M>, Receiver<Status>), ClusterFault>
     ensures job { IfOk result (λ r. IsStatusJob r.0) }
     ensures fault { IfErr result (λ e. e ≡ Memory) }

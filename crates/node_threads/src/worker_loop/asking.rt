@@ -23,14 +23,14 @@ use stable_store::Stable;
 use std::sync::Wait;
 use world_views::NodeInput;
 
-/// The most requests that a round asks one by one: each may be saved on its own, and the others wait for
-/// what a leader sends behind.
+/// The most requests that a round asks one by one: each may need a save of its own, and meanwhile the other nodes wait
+/// for what a leader sends after them.
 const MOST_ASKED: u64 = 16;
 
 impl<M: Marking, G: Gate + Drop, O: Outlet<M::Effect>> WorkerLoop<M, G, O> {
-    /// A node that knows a leader asks the first request that waits, before it answers its leader: of a
-    /// leader that sends again and again an answer is always on its way, and the mailbox holds one message.
-    /// Where it posted a request last, it answers first: else no answer would come while requests wait.
+    /// If the node knows a leader, asks the first request that waits, before it answers its leader: when a leader sends
+    /// again and again, an answer is always on its way, and the mailbox holds one message. If it last posted a request,
+    /// it answers first: else no answer would come while requests wait.
     pub fn ask_before<R: Wait, S: Stable<M::Command>, U: Upstream>(
         &mut self,
         rt: &R,
@@ -46,8 +46,8 @@ impl<M: Marking, G: Gate + Drop, O: Outlet<M::Effect>> WorkerLoop<M, G, O> {
         }
     }
 
-    /// Asks the requests that wait as long as the node may: a node that leads `BATCH_LIMIT` at most together,
-    /// and any other one by one. False where it may ask more.
+    /// Asks the requests that wait as long as the node may: a leader at most `BATCH_LIMIT` together, any other node one
+    /// by one. False if it may ask more.
     pub fn ask_all<R: Wait, S: Stable<M::Command>, U: Upstream>(
         &mut self,
         rt: &R,
@@ -62,8 +62,7 @@ impl<M: Marking, G: Gate + Drop, O: Outlet<M::Effect>> WorkerLoop<M, G, O> {
         self.ask_each(rt, cell)
     }
 
-    /// A node that leads is asked the first `BATCH_LIMIT` of the requests that wait, together. Whether any
-    /// was.
+    /// Asks a leader the first `BATCH_LIMIT` of the requests that wait, together. Returns whether there were any.
     fn ask_together<R: Wait, S: Stable<M::Command>, U: Upstream>(
         &mut self,
         rt: &R,
@@ -83,8 +82,8 @@ impl<M: Marking, G: Gate + Drop, O: Outlet<M::Effect>> WorkerLoop<M, G, O> {
         true
     }
 
-    /// The first `BATCH_LIMIT` of the requests that wait, which are asked in the node's term. None where there
-    /// is no memory for them, and then all wait on.
+    /// The first `BATCH_LIMIT` of the requests that wait, to be asked in the node's term. None if memory runs out, and
+    /// then all still wait.
     fn next_asks<S: Stable<M::Command>, U: Upstream>(
         &mut self,
         cell: &NodeCell<M, S, U>,
@@ -113,7 +112,7 @@ impl<M: Marking, G: Gate + Drop, O: Outlet<M::Effect>> WorkerLoop<M, G, O> {
         inputs
     }
 
-    /// Asks the requests that wait one by one, as long as the node may. False where it may ask more.
+    /// Asks the requests that wait one by one, as long as the node may. False if it may ask more.
     fn ask_each<R: Wait, S: Stable<M::Command>, U: Upstream>(
         &mut self,
         rt: &R,
@@ -130,7 +129,7 @@ impl<M: Marking, G: Gate + Drop, O: Outlet<M::Effect>> WorkerLoop<M, G, O> {
         false
     }
 
-    /// Asks the first request that waits, if one does and the node may. Whether it did.
+    /// Asks the first request that waits, if there is one and the node may. Returns whether it did.
     fn ask_one<R: Wait, S: Stable<M::Command>, U: Upstream>(
         &mut self,
         rt: &R,
@@ -153,8 +152,8 @@ impl<M: Marking, G: Gate + Drop, O: Outlet<M::Effect>> WorkerLoop<M, G, O> {
         true
     }
 
-    /// The leader to which a request lies that it did not take, if one does: its mailbox is left, since the
-    /// answer to what lies there would replace the request. Of an older leader this says nothing.
+    /// The leader that has not taken a request from its mailbox, if there is one: the mailbox from it is left, since
+    /// the answer to its message would replace the request. This says nothing about an older leader.
     pub fn leader_left<S: Stable<M::Command>, U: Upstream>(
         &self,
         cell: &mut NodeCell<M, S, U>,

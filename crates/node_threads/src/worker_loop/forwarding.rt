@@ -1,4 +1,4 @@
-//! The request that lies on its way to the leader.
+//! The request that is on its way to the leader.
 ghost use Rattle.std.specs.Prelude.{◌≡◌};
 ghost use Rattle.node_threads.specs.Forwarding.{after_post, asks_first, forwarded_after, is_left, is_request, request_at};
 
@@ -13,8 +13,8 @@ pub fn is_request<B: Wire, L>(input: &NodeInput<B, L>) -> bool
     matches!(input, NodeInput::Ask(_))
 }
 
-/// The node to which a request was posted, and nothing since, once a turn posted to these nodes: a
-/// request, or other messages.
+/// The node to which a request was last posted, if nothing was posted to it since, after a turn
+/// posted to these nodes: a request, or other messages.
 pub fn forwarded_after(forwarded: Option<u8>, is_request: bool, posted_to: &[u8]) -> Option<u8>
     ensures { result ≡ forwarded_after is_request posted_to.now forwarded }
 {
@@ -25,7 +25,7 @@ pub fn forwarded_after(forwarded: Option<u8>, is_request: bool, posted_to: &[u8]
     forwarded
 }
 
-/// So once one message was posted.
+/// The same after one message was posted.
 fn after_post(forwarded: Option<u8>, is_request: bool, node: u8) -> Option<u8>
     ensures { result ≡ after_post is_request node forwarded }
 {
@@ -38,7 +38,7 @@ fn after_post(forwarded: Option<u8>, is_request: bool, node: u8) -> Option<u8>
     }
 }
 
-/// The leader that the node knows, where what was posted to it last is a request.
+/// The leader that the node knows, if the last message posted to it is a request.
 pub fn request_at(forwarded: Option<u8>, leader: Option<NodeId>) -> Option<u8>
     ensures { result ≡ request_at forwarded leader }
 {
@@ -48,7 +48,7 @@ pub fn request_at(forwarded: Option<u8>, leader: Option<NodeId>) -> Option<u8>
     }
 }
 
-/// Whether the node knows a leader, and what was posted to it last is no request.
+/// Whether the node knows a leader, and the last message posted to it is no request.
 pub fn asks_first(forwarded: Option<u8>, leader: Option<NodeId>) -> bool
     ensures { result ≡ asks_first forwarded leader }
 {
@@ -59,7 +59,7 @@ pub fn asks_first(forwarded: Option<u8>, leader: Option<NodeId>) -> bool
     }
 }
 
-/// Whether the mailbox from the node at this place, from 0 on, is that of the node of this number.
+/// Whether the mailbox from the node at this place, from 0 on, belongs to the node of this number.
 pub fn is_left(left: Option<u8>, place: u8) -> bool
     ensures { result ≡ is_left left place }
 {

@@ -1,4 +1,4 @@
-//! The inputs that a worker gathers, for its node to do together.
+//! The inputs that a worker gathers, for its node to process together.
 ghost use Rattle.std.specs.Prelude.{◌≡◌, ◌≤◌, [], None, false, length, true};
 ghost use Rattle.world_views.specs.Views.{carries};
 ghost use Rattle.node_threads.specs.Reports.{is_told, leads_in};
@@ -20,8 +20,8 @@ use std::sync::Wait;
 use world_views::NodeInput;
 
 impl<M: Marking, G: Gate + Drop, O: Outlet<M::Effect>> WorkerLoop<M, G, O> {
-    /// Takes up a job. An input by which a leader only appends is gathered; any other job is done behind
-    /// all that was gathered. Whether the job was done by itself.
+    /// Takes up a job. An input by which a leader only appends is gathered; any other job is done after all that was
+    /// gathered. Returns whether the job was done by itself.
     pub fn take_up<R: Wait, S: Stable<M::Command>, U: Upstream>(
         &mut self,
         rt: &R,
@@ -47,8 +47,8 @@ impl<M: Marking, G: Gate + Drop, O: Outlet<M::Effect>> WorkerLoop<M, G, O> {
         }
     }
 
-    /// An input comes behind those that were gathered. Where there is no memory for that, it is done by
-    /// itself behind them, which is true then.
+    /// Adds an input to those that were gathered. If memory runs out, it is done by itself after them, and this returns
+    /// true.
     fn add<R: Wait, S: Stable<M::Command>, U: Upstream>(
         &mut self,
         rt: &R,
@@ -72,8 +72,8 @@ impl<M: Marking, G: Gate + Drop, O: Outlet<M::Effect>> WorkerLoop<M, G, O> {
         }
     }
 
-    /// A job is done behind all that was gathered, unless it does nothing with the node. Whether it does
-    /// something with it.
+    /// Does a job after all that was gathered, unless it does nothing with the node. Returns whether it does something
+    /// with it.
     fn do_behind<R: Wait, S: Stable<M::Command>, U: Upstream>(
         &mut self,
         rt: &R,
@@ -96,7 +96,7 @@ impl<M: Marking, G: Gate + Drop, O: Outlet<M::Effect>> WorkerLoop<M, G, O> {
         true
     }
 
-    /// All that was gathered is done together, and nothing is gathered any more.
+    /// Processes all that was gathered together, which leaves nothing gathered.
     pub fn turn_gathered<R: Wait, S: Stable<M::Command>, U: Upstream>(
         &mut self,
         rt: &R,
@@ -113,8 +113,8 @@ impl<M: Marking, G: Gate + Drop, O: Outlet<M::Effect>> WorkerLoop<M, G, O> {
         self.turn_all(rt, cell, inputs);
     }
 
-    /// Inputs that only append are done together by a node that leads, if there are any: they are saved at
-    /// once, and nothing is sent by them. A refusal is a turn that did nothing.
+    /// Processes inputs by which a leader only appends together, if there are any: one save covers them, and nothing is
+    /// sent by them. A refusal is a turn that did nothing.
     pub fn turn_all<R: Wait, S: Stable<M::Command>, U: Upstream>(
         &mut self,
         rt: &R,
@@ -140,7 +140,7 @@ impl<M: Marking, G: Gate + Drop, O: Outlet<M::Effect>> WorkerLoop<M, G, O> {
     }
 }
 
-/// Whether there are any.
+/// Whether a list has items.
 pub fn has_some<T>(items: &Vec<T>) -> bool
     ensures some { result ≡ true → 1 ≤ length items.now.items }
     ensures none { result ≡ false → items.now.items ≡ [] }

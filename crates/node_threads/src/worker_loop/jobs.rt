@@ -22,13 +22,13 @@ use stable_store::Stable;
 use std::sync::Wait;
 use world_views::NodeInput;
 
-/// The most jobs that a round does each by itself: each may be saved on its own, and the others wait for
-/// what a leader sends behind.
+/// The most jobs that a round does one by one: each may need a save of its own, and meanwhile the other nodes wait for
+/// what a leader sends after them.
 const MOST_ALONE: u64 = 16;
 
 impl<M: Marking, G: Gate + Drop, O: Outlet<M::Effect>> WorkerLoop<M, G, O> {
-    /// Does the jobs that are in the inbox, in order, and waits for the first one where it may. True where
-    /// it is told to end, or nobody tells it anything any more.
+    /// Does the jobs that are in the inbox, in order, and waits for the first one if it may. True if it is asked to
+    /// end, or the inbox has no senders left.
     pub fn do_jobs<R: Wait, S: Stable<M::Command>, U: Upstream, I: Inflow<Job<M>>>(
         &mut self,
         rt: &R,
@@ -46,7 +46,7 @@ impl<M: Marking, G: Gate + Drop, O: Outlet<M::Effect>> WorkerLoop<M, G, O> {
         is_over
     }
 
-    /// Takes up the jobs that are in the inbox. What is gathered of them is still to be done.
+    /// Takes up the jobs that are in the inbox. Those that are gathered are still to be done.
     fn take_jobs<R: Wait, S: Stable<M::Command>, U: Upstream, I: Inflow<Job<M>>>(
         &mut self,
         rt: &R,
@@ -63,8 +63,8 @@ impl<M: Marking, G: Gate + Drop, O: Outlet<M::Effect>> WorkerLoop<M, G, O> {
         ensures ready { AreReady gathered.new.items cell.new.parts }
     {
         let mut alone = 0u64;
-        // What a leader only appends of them is saved at once, so that a slow disk is waited for once: a
-        // round takes as many as can be saved together.
+        // One save covers what a leader only appends, so that a slow disk is waited for once: a round takes as many as
+        // can be saved together.
         for place in 0..BATCH_LIMIT {
             match inbox.next(rt, waits_at(may_wait, place)) {
                 Next::Job(job) => {
@@ -117,7 +117,7 @@ impl<M: Marking, G: Gate + Drop, O: Outlet<M::Effect>> WorkerLoop<M, G, O> {
         }
     }
 
-    /// A job is taken up, which counts where the node was told it.
+    /// Takes up a job, which counts if the driver sent it.
     pub fn count(&mut self, is_told: bool)
         ensures { account_of self.new ≡ counted is_told (account_of self.old) }
     {
@@ -165,8 +165,8 @@ impl<M: Marking, G: Gate + Drop, O: Outlet<M::Effect>> WorkerLoop<M, G, O> {
         }
     }
 
-    /// The node waited too long for a leader, unless it leads, or has heard of a leader more often than
-    /// this by now. So it takes the mailbox of its leader, too, whatever lies on its way there.
+    /// The node waited too long for a leader, unless it leads, or has heard of a leader more often than this by now. It
+    /// takes the mailbox of its leader, too, whatever is on its way there.
     fn time_out<R: Wait, S: Stable<M::Command>, U: Upstream>(
         &mut self,
         rt: &R,
@@ -183,7 +183,7 @@ impl<M: Marking, G: Gate + Drop, O: Outlet<M::Effect>> WorkerLoop<M, G, O> {
         }
     }
 
-    /// Whether the node leads not, and has heard of a leader at most so often.
+    /// Whether the node does not lead, and has heard of a leader at most this often.
     fn is_due<S: Stable<M::Command>, U: Upstream>(
         &self,
         cell: &NodeCell<M, S, U>,
@@ -195,8 +195,8 @@ impl<M: Marking, G: Gate + Drop, O: Outlet<M::Effect>> WorkerLoop<M, G, O> {
     }
 }
 
-/// Whether the inbox may wait for what comes at this place of a round, from 0 on: for the first alone, where that may
-/// be waited for.
+/// Whether the inbox may wait for what comes at this place of a round, from 0 on: only for the first, if it may wait
+/// for that.
 fn waits_at(may_wait: bool, place: usize) -> bool
     ensures { result ≡ (may_wait && nat_eq place 0) }
 {

@@ -1,4 +1,4 @@
-//! A worker whose node is not open yet, since its store is not there: the node is down until then.
+//! A worker whose node is not open yet because its store is not there: the node is down until then.
 ghost use Rattle.std.specs.Prelude.{◌≡◌, ◌⊎◌, Some, true};
 ghost use Rattle.raft_node.specs.Parts.{keeper};
 ghost use Rattle.node_threads.specs.declared.place.Place.TheVariants.{Late, Open};
@@ -27,19 +27,19 @@ use stable_store::Stable;
 use std::sync::Wait;
 use wire_bytes::Number;
 
-/// What comes of a job for a node that is not open yet.
+/// The result of a job for a node that is not open yet.
 #[derive(Drop)]
 pub enum DownStep {
-    /// The worker is told to end, or nobody tells it anything any more.
+    /// The worker is asked to end, or its inbox has no senders left.
     Over,
     /// The node stays down.
     Stay,
-    /// The node is to be started again, and who waits for that is answered here.
+    /// The node is to be started again, and the caller that waits for that is answered here.
     Restart(Option<Sender<Result<(), CellFault>>>),
 }
 
 impl<M: Marking, G: Gate + Drop, O: Outlet<M::Effect>> WorkerLoop<M, G, O> {
-    /// Works with a node that was opened, until it is told to end.
+    /// Works with a node that was opened, until it is asked to end.
     pub fn work_open<R: Wait, S: Stable<M::Command>, U: Upstream, L: Opener<S>, I: Inflow<Job<M>>>(
         &mut self,
         rt: &R,
@@ -53,8 +53,8 @@ impl<M: Marking, G: Gate + Drop, O: Outlet<M::Effect>> WorkerLoop<M, G, O> {
         Place::Open(cell)
     }
 
-    /// Waits for the store of a node that is not open yet, and then works with the node as with every other,
-    /// until it is told to end.
+    /// Waits for the store of a node that is not open yet, and then works with the node as with every other, until it
+    /// is asked to end.
     pub fn work_late<R: Wait, S: Stable<M::Command>, U: Upstream, L: Opener<S>, I: Inflow<Job<M>>>(
         &mut self,
         rt: &R,
@@ -71,8 +71,8 @@ impl<M: Marking, G: Gate + Drop, O: Outlet<M::Effect>> WorkerLoop<M, G, O> {
         }
     }
 
-    /// Tells that the node is down, and asks its opener for the store each time it is to be started again, until
-    /// the node is open, or the worker is told to end.
+    /// Reports that the node is down, and asks its opener for the store each time it is to be started again, until the
+    /// node is open, or the worker is asked to end.
     fn wait_for_store<R: Wait, S: Stable<M::Command>, U: Upstream, L: Opener<S>, I: Inflow<Job<M>>>(
         &mut self,
         rt: &R,
@@ -106,7 +106,7 @@ impl<M: Marking, G: Gate + Drop, O: Outlet<M::Effect>> WorkerLoop<M, G, O> {
         Place::Late(cell, opener)
     }
 
-    /// Tells that the node is down, where that is new. False where it was not taken, and is told again.
+    /// Reports that the node is down, if that is new. False if the report was not taken; then it is reported again.
     fn tell_down<R: Wait>(&mut self, rt: &R, node: NodeId, cause: Cause) -> bool
         ensures told { IsUntold self.old self.new
             ⊎ HasTold O.has_taken (StandsDown cause self.old) node self.old self.new }
@@ -120,7 +120,7 @@ impl<M: Marking, G: Gate + Drop, O: Outlet<M::Effect>> WorkerLoop<M, G, O> {
         self.tell_now(rt, node, now)
     }
 
-    /// How a node stands that is down since its store is not there, and how far its worker is.
+    /// The state of a node that is down because its store is not there, and how far its worker is.
     fn stand_down(&self, cause: Cause) -> Told
         ensures { result ≡ told_down cause self.now }
     {
@@ -136,7 +136,7 @@ impl<M: Marking, G: Gate + Drop, O: Outlet<M::Effect>> WorkerLoop<M, G, O> {
         }
     }
 
-    /// Does the next job as at a node that is down. Waits for it where it may.
+    /// Does the next job as at a node that is down. Waits for it if it may.
     fn take_down<R: Wait, I: Inflow<Job<M>>>(
         &mut self,
         rt: &R,
@@ -217,7 +217,7 @@ impl<M: Marking, G: Gate + Drop, O: Outlet<M::Effect>> WorkerLoop<M, G, O> {
     }
 }
 
-/// The node is opened over its store, if that is there.
+/// Opens the node over its store, if that is there.
 fn open_late<M: Marking, S: Stable<M::Command>, U: Upstream, L: Opener<S>>(
     cell: UnopenedCell<M, U>,
     opener: &mut L,
@@ -232,7 +232,7 @@ fn open_late<M: Marking, S: Stable<M::Command>, U: Upstream, L: Opener<S>>(
     }
 }
 
-/// Who waits for a restart is answered, if one does.
+/// Answers the caller that waits for a restart, if there is one.
 fn answer<R: Wait>(
     rt: &R,
     reply: Option<Sender<Result<(), CellFault>>>,
@@ -243,7 +243,7 @@ fn answer<R: Wait>(
     }
 }
 
-/// How a node stands whose store is not there: it has no run, and nothing is known of it.
+/// The state of a node whose store is not there: it has no run, and nothing is known of it.
 fn status_down(cause: Cause) -> Status
     ensures { result ≡ status_down cause }
 {

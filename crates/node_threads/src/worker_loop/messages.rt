@@ -21,7 +21,7 @@ use wire_bytes::Wire;
 use world_views::NodeInput;
 
 impl<M: Marking, G: Gate + Drop, O: Outlet<M::Effect>> WorkerLoop<M, G, O> {
-    /// Takes each mailbox once, by rising number of the sender, but for that from this node.
+    /// Takes each mailbox once, by rising number of the sender, except one that is left.
     pub fn take_all<R: Wait, S: Stable<M::Command>, U: Upstream>(
         &mut self,
         rt: &R,
@@ -38,7 +38,7 @@ impl<M: Marking, G: Gate + Drop, O: Outlet<M::Effect>> WorkerLoop<M, G, O> {
         }
     }
 
-    /// Takes the mailbox from the node at this place, if there is one, where it is not left.
+    /// Takes the mailbox from the node at this place, if there is one and it is not left.
     fn take_unless<R: Wait, S: Stable<M::Command>, U: Upstream>(
         &mut self,
         rt: &R,
@@ -56,7 +56,7 @@ impl<M: Marking, G: Gate + Drop, O: Outlet<M::Effect>> WorkerLoop<M, G, O> {
         }
     }
 
-    /// Takes what lies in the mailbox from the node at this place, from 0 on, if there is one, and turns its
+    /// Takes the message in the mailbox from the node at this place, from 0 on, if there is one, and processes its
     /// delivery.
     fn take_from<R: Wait, S: Stable<M::Command>, U: Upstream>(
         &mut self,
@@ -81,9 +81,9 @@ impl<M: Marking, G: Gate + Drop, O: Outlet<M::Effect>> WorkerLoop<M, G, O> {
         self.turn(rt, cell, input);
     }
 
-    /// What the worker itself makes of a message: it counts what it hears of a leader, and wakes who waits
-    /// until this message was taken. A request is on its way behind another one at once; behind an answer
-    /// it may wait for the end of the round.
+    /// What the worker itself makes of a message: it counts messages of a leader, and wakes a worker that waits until
+    /// this message was taken. After a request the next one follows at once; after an answer it may wait for the end of
+    /// the round.
     fn notice<R: Wait, S: Stable<M::Command>, U: Upstream>(
         &mut self,
         rt: &R,
@@ -117,7 +117,7 @@ impl<M: Marking, G: Gate + Drop, O: Outlet<M::Effect>> WorkerLoop<M, G, O> {
     }
 }
 
-/// The delivery of what lies in the mailbox from the node at this place, from 0 on, if something does.
+/// The delivery of the message in the mailbox from the node at this place, from 0 on, if there is one.
 fn next_from<M: Marking, S: Stable<M::Command>, U: Upstream>(
     cell: &mut NodeCell<M, S, U>,
     from: u64,

@@ -1,11 +1,11 @@
-//! What a report tells of a turn.
+//! What a report says of a turn.
 ghost use Rattle.std.specs.Prelude.{◌≡◌};
 ghost use Rattle.node_threads.specs.Rounds.{is_handed, reported};
 
 use machine_laws::{Class, Hosted};
 
-/// What a report tells of what leaves in a turn, in order: all but what was handed out upstream, since its
-/// upstream had that. Takes no memory.
+/// The effects of a turn that a report gives, in order: all but what was handed out upstream, since its upstream has
+/// got that. Needs no memory.
 pub fn reported<M: Hosted>(mut effects: Vec<M::Effect>) -> Vec<M::Effect>
     ensures { result.items ≡ reported M.class effects.items }
 {

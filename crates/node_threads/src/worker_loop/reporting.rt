@@ -1,4 +1,4 @@
-//! What a worker tells its outlet, once a round.
+//! What a worker reports to its outlet, once a round.
 ghost use Rattle.std.specs.Prelude.{◌≡◌, ◌<◌, ◌↔◌, ◌⊎◌, [], IsTrue, None, Some, false, suc, true};
 ghost use Rattle.node_threads.specs.Reports.{HasGrownAlone, IsReport, TellsFirst};
 ghost use Rattle.node_threads.specs.Telling.{HasTold, IsKnown, IsUntold, StandsSo};
@@ -21,9 +21,9 @@ use std::sync::Wait;
 use std::thread;
 
 impl<M: Marking, G: Gate + Drop, O: Outlet<M::Effect>> WorkerLoop<M, G, O> {
-    /// Tells what is new. Growth of the log alone is told with what comes of it, with the next beat of the
-    /// clock, or in the next round in which the log does not grow: else the loop would wake for each entry
-    /// twice. False where what was told was not taken, or where more is to be told.
+    /// Reports what is new. That only the log grew is reported with what comes of it, with the next beat of the clock,
+    /// or in the next round in which the log does not grow: else the loop would wake twice for each entry. False if the
+    /// report was not taken, or there is more to report.
     pub fn tell<R: Wait, S: Stable<M::Command>, U: Upstream>(
         &mut self,
         rt: &R,
@@ -46,8 +46,8 @@ impl<M: Marking, G: Gate + Drop, O: Outlet<M::Effect>> WorkerLoop<M, G, O> {
         self.tell_now(rt, cell.id(), now)
     }
 
-    /// Tells this of the node, with what left and the first fault. False where it was not taken, or where more
-    /// is to be told.
+    /// Reports this state of the node, with its effects and the first fault. False if the report was not taken, or
+    /// there is more to report.
     pub fn tell_now<R: Wait>(&mut self, rt: &R, node: NodeId, now: Told) -> bool
         ensures order { TellsFirst (leaving self.old.round) (leaving self.new.round) }
         ensures all { result ≡ true → self.new.round.effects.items ≡ [] }
@@ -72,7 +72,7 @@ impl<M: Marking, G: Gate + Drop, O: Outlet<M::Effect>> WorkerLoop<M, G, O> {
         }
     }
 
-    /// How the node stands, and how far its worker is.
+    /// The state of the node, and how far its worker is.
     fn stand<S: Stable<M::Command>, U: Upstream>(&mut self, cell: &NodeCell<M, S, U>) -> Told
         ensures stands { StandsSo M.next_claim cell.now.parts self.old result }
         ensures requests { queue_of self.new.requests
@@ -90,7 +90,7 @@ impl<M: Marking, G: Gate + Drop, O: Outlet<M::Effect>> WorkerLoop<M, G, O> {
         Told { status, progress }
     }
 
-    /// What is told, of what left and the first fault.
+    /// A report, from the effects and the first fault.
     fn report(&mut self, node: NodeId, now: &Told) -> Report<M::Effect>
         ensures report { IsReport node now.now self.old.round.effects.items self.old.round.fault
             result }
@@ -108,7 +108,7 @@ impl<M: Marking, G: Gate + Drop, O: Outlet<M::Effect>> WorkerLoop<M, G, O> {
         }
     }
 
-    /// Whether the log is longer than it was as the round before ended.
+    /// Whether the log is longer than when the last round ended.
     fn has_grown(&mut self, now: &Told) -> bool
         ensures grown { IsTrue result ↔ (self.old.seen < now.now.status.last) }
         ensures seen { self.new ≡ record self.old { seen = now.now.status.last } }
@@ -118,8 +118,8 @@ impl<M: Marking, G: Gate + Drop, O: Outlet<M::Effect>> WorkerLoop<M, G, O> {
         has_grown
     }
 
-    /// Whether nothing is to be told but that the log grew by a few notes, of which none is a beat: the
-    /// clock waits for that before it orders the next one.
+    /// Whether all there is to report is that the log grew by a few notes, none of which is a beat: the clock waits for
+    /// that before it orders the next one.
     fn may_tell_later(&self, now: &Told) -> bool
         ensures none_leaves { result ≡ true → self.now.round.effects.items ≡ [] }
         ensures no_fault { result ≡ true → self.now.round.fault ≡ None }
@@ -135,8 +135,8 @@ impl<M: Marking, G: Gate + Drop, O: Outlet<M::Effect>> WorkerLoop<M, G, O> {
         }
     }
 
-    /// Whether this is to be told: something leaves, a turn did nothing, or the node or its worker stands
-    /// as was not told last.
+    /// Whether there is something to report: an effect, a turn that did nothing, or a state of the node or its worker
+    /// that differs from the last report.
     pub fn is_news(&self, now: &Told) -> bool
         ensures effects { result ≡ false → self.now.round.effects.items ≡ [] }
         ensures fault { result ≡ false → self.now.round.fault ≡ None }

@@ -6,7 +6,7 @@ use std::alloc::Global;
 use std::collections::VecDeque;
 use wire_bytes::Number;
 
-/// A request that a node was told, and the number of its note.
+/// A request for a node, and the number of its note.
 #[derive(Drop)]
 pub struct Request<B> {
     pub note: u64,
@@ -18,7 +18,7 @@ pub struct Request<B> {
 pub struct Asked {
     pub note: u64,
     pub term: Number,
-    /// Whether it may come back: it did not yet, and no mark was asked since.
+    /// Whether it may come back: it has not yet, and no mark was asked since.
     pub may_return: bool,
 }
 
@@ -26,7 +26,7 @@ pub struct Asked {
 #[derive(Drop)]
 pub struct Requests<B> {
     pub waiting: VecDeque<Request<B>>,
-    /// The last that was asked in this run of the node.
+    /// The last request that was asked in this run of the node.
     pub asked: Option<Asked>,
     /// The last note whose request may be lost.
     pub lost: u64,
@@ -43,7 +43,7 @@ impl<B: Drop> Requests<B> {
         }
     }
 
-    /// A request that was told comes behind all that wait. Where there is no memory for it, it is lost.
+    /// Adds a request after all that wait. If memory runs out, it is lost.
     pub fn tell(&mut self, note: u64, body: B)
         ensures { WaitsOrIsLost note (behind (request note body) (queue_of self.old))
             (queue_of self.old) (queue_of self.new) }
@@ -61,7 +61,7 @@ impl<B: Drop> Requests<B> {
         !self.waiting.is_empty()
     }
 
-    /// The first of those that wait, which is asked in this term.
+    /// Takes the first of those that wait, which is asked in this term.
     pub fn ask(&mut self, term: Number) -> Option<B>
         ensures { HasAsked term (queue_of self.old) result (queue_of self.new) }
     {
@@ -75,8 +75,8 @@ impl<B: Drop> Requests<B> {
         Some(body)
     }
 
-    /// The last request that was asked is not on its way any more, and comes first again. Where there is no
-    /// memory for it, it is lost. It does not come back a second time.
+    /// The last request that was asked is not on its way any more, and is first again. If memory runs out, it is lost.
+    /// It does not come back a second time.
     pub fn give_back(&mut self, note: u64, body: B)
         ensures { WaitsOrIsLost note (in_front (request note body) (settled (queue_of self.old)))
             (settled (queue_of self.old)) (queue_of self.new) }
@@ -87,7 +87,7 @@ impl<B: Drop> Requests<B> {
         }
     }
 
-    /// So it is lost.
+    /// The last request that was asked is lost.
     pub fn lose_back(&mut self, note: u64)
         ensures { queue_of self.new ≡ lose note (settled (queue_of self.old)) }
     {
@@ -95,7 +95,7 @@ impl<B: Drop> Requests<B> {
         self.lose(note);
     }
 
-    /// The last request that was asked comes back no more.
+    /// The last request that was asked can no longer come back.
     pub fn settle(&mut self)
         ensures { queue_of self.new ≡ settled (queue_of self.old) }
     {

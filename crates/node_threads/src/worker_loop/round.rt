@@ -13,15 +13,15 @@ use std::mem::replace;
 /// What a round of a worker gathers, for its end.
 #[derive(Drop)]
 pub struct Round<E> {
-    /// What is to be told of what leaves, in order.
+    /// The effects to report, in order.
     pub effects: Vec<E>,
-    /// What is to be told after those, where there was no memory to put it behind them: it is told next.
+    /// The effects to report after those, if memory ran out when they were added: they are reported next.
     pub further: Vec<E>,
     /// Why a turn did nothing: the first such fault.
     pub fault: Option<NodeFault>,
     /// Whether each node is to look into its mailboxes, node 1 first.
     pub woken: [bool; 7],
-    /// A node that lags behind this one answered.
+    /// Whether a lagging node answered.
     pub is_behind: bool,
 }
 
@@ -36,7 +36,7 @@ impl<E: Drop> Round<E> {
         }
     }
 
-    /// What is told of a turn comes behind what is told of those before.
+    /// Adds the reported effects of a turn after those of earlier ones.
     pub fn leave(&mut self, effects: Vec<E>)
         ensures leaving { self.old.further.items ≡ []
             → leaving self.new ≡ leaving self.old ++ effects.items }
@@ -62,7 +62,7 @@ impl<E: Drop> Round<E> {
         }
     }
 
-    /// Each of these answers that is a refusal is a turn that did nothing.
+    /// Counts each refusal among these answers as a turn that did nothing.
     pub fn fail_each(&mut self, answers: &[Result<(), Refusal>])
         ensures { self.new ≡ with_refusals answers.now self.old }
     {
@@ -82,7 +82,7 @@ impl<E: Drop> Round<E> {
         }
     }
 
-    /// So are all of these.
+    /// All of these nodes are to look into their mailboxes.
     pub fn wake_each(&mut self, nodes: &[u8])
         ensures { self.new ≡ record self.old { woken = woken_by self.old.woken nodes.now } }
     {
@@ -91,21 +91,21 @@ impl<E: Drop> Round<E> {
         }
     }
 
-    /// Whether there is more to tell than one report takes.
+    /// Whether there is more to report than fits in one report.
     pub fn has_further(&self) -> bool
         ensures { IsFalse result ↔ (self.now.further.items ≡ []) }
     {
         !self.further.is_empty()
     }
 
-    /// Whether there is something to tell, whatever became of the node.
+    /// Whether there is something to report, whatever the state of the node.
     pub fn has_news(&self) -> bool
         ensures { IsFalse result ↔ (self.now.effects.items ≡ []) × (self.now.fault ≡ None) }
     {
         !self.effects.is_empty() || self.fault.is_some()
     }
 
-    /// What was gathered was told, but for what is told next.
+    /// What was gathered was reported, except what is reported next.
     pub fn go_on(&mut self, alloc: Global)
         ensures leaving { leaving self.new ≡ self.old.further.items }
         ensures fault { self.new.fault ≡ None }

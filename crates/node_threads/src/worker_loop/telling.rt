@@ -1,4 +1,4 @@
-//! What a worker tells: the workers whose nodes it posted to, and its outlet.
+//! Whom a worker informs: the workers whose nodes it posted to, and its outlet.
 ghost use Rattle.std.specs.Prelude.{◌≡◌, ◌↔◌, IsTrue};
 ghost use Rattle.node_threads.specs.Reports.{IsGrownAlone, IsStatusOf, leads_in, told_fault};
 
@@ -11,8 +11,8 @@ use raft_node::{Cause, NodeFault};
 use stable_store::Stable;
 use std::sync::Wait;
 
-/// The most notes that are done without that being told. The driver stops at 256 of which it does not know
-/// that they are done, and is to hear of them well before.
+/// The most notes that may be done without a report. The driver stops at 256 that it does not know to be done, and
+/// should hear of them well before.
 const MOST_UNTOLD: u64 = 64;
 
 /// The worker of the node of this number is to look into its mailboxes.
@@ -25,7 +25,7 @@ pub fn wake<M: Hosted>(rt: &impl Wait, inboxes: &[Sender<Job<M>>], node: u8) {
     }
 }
 
-/// How the node of a cell stands.
+/// The state of the node of a cell.
 pub fn status<M: Marking, S: Stable<M::Command>, U: Upstream>(cell: &NodeCell<M, S, U>) -> Status
     ensures { IsStatusOf M.next_claim cell.now.parts result }
 {
@@ -39,7 +39,7 @@ pub fn leads<M: Marking, S: Stable<M::Command>, U: Upstream>(cell: &NodeCell<M, 
     status(cell).leads()
 }
 
-/// A cell's fault, as it is told of the node.
+/// A cell's fault, as it is reported of the node.
 pub fn told_fault(fault: CellFault) -> NodeFault
     ensures { result ≡ told_fault fault }
 {
@@ -49,7 +49,7 @@ pub fn told_fault(fault: CellFault) -> NodeFault
     }
 }
 
-/// What is told of a node: how it stands, and how far its worker is.
+/// What is reported of a node: its state, and how far its worker is.
 #[derive(Clone, Copy)]
 pub struct Told {
     pub status: Status,
@@ -57,7 +57,7 @@ pub struct Told {
 }
 
 impl Told {
-    /// Whether the same would be told.
+    /// Whether two reports would be the same.
     pub fn is_same(&self, other: &Told) -> bool
         ensures { IsTrue result ↔ (self.now ≡ other.now) }
     {
@@ -65,8 +65,8 @@ impl Told {
             && is_same_progress(&self.progress, &other.progress)
     }
 
-    /// Whether nothing else would be told now than that the log grew, by entries that are not agreed yet, how
-    /// often a leader was heard, and that a few notes are done.
+    /// Whether the next report would differ only in that the log grew, by entries that are not agreed yet, in how often
+    /// a leader was heard, and in that a few notes are done.
     pub fn has_grown_alone(&self, now: &Told) -> bool
         ensures { IsTrue result ↔ IsGrownAlone self.now now.now }
     {

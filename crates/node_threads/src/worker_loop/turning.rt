@@ -23,11 +23,11 @@ use std::sync::Wait;
 use wire_bytes::Copied;
 use world_views::{Envelope, NodeInput};
 
-/// The most places that a round applies: the others wait for what a leader sends behind.
+/// The most places that a round applies: meanwhile the other nodes wait for what a leader sends after that.
 const MOST_APPLIED: u64 = 1_000;
 
 impl<M: Marking, G: Gate + Drop, O: Outlet<M::Effect>> WorkerLoop<M, G, O> {
-    /// One turn of the node. False where it did nothing.
+    /// One turn of the node. False if it did nothing.
     pub fn turn<R: Wait, S: Stable<M::Command>, U: Upstream>(
         &mut self,
         rt: &R,
@@ -63,8 +63,7 @@ impl<M: Marking, G: Gate + Drop, O: Outlet<M::Effect>> WorkerLoop<M, G, O> {
         }
     }
 
-    /// The node's next mark. No request that was asked before it comes back behind it: what comes back then
-    /// is the mark.
+    /// The node's next mark. No request that was asked before it comes back after it: what comes back then is the mark.
     pub fn mark<R: Wait, S: Stable<M::Command>, U: Upstream>(
         &mut self,
         rt: &R,
@@ -92,8 +91,8 @@ impl<M: Marking, G: Gate + Drop, O: Outlet<M::Effect>> WorkerLoop<M, G, O> {
         }
     }
 
-    /// What came of a turn, which was a request or not, is kept for the end of the round: of what leaves, what
-    /// a report tells.
+    /// Keeps the result of a turn for the end of the round: the effects that a report gives. The turn was a request or
+    /// not.
     fn gather<S: Stable<M::Command>, U: Upstream>(
         &mut self,
         cell: &NodeCell<M, S, U>,
@@ -121,7 +120,7 @@ impl<M: Marking, G: Gate + Drop, O: Outlet<M::Effect>> WorkerLoop<M, G, O> {
         self.round.leave(reported::<M>(effects));
     }
 
-    /// A request that lay on its way to the leader of this term comes first again.
+    /// A request that was on its way to the leader of this term is first again.
     fn take_back<S: Stable<M::Command>, U: Upstream>(
         &mut self,
         cell: &NodeCell<M, S, U>,
@@ -156,8 +155,8 @@ impl<M: Marking, G: Gate + Drop, O: Outlet<M::Effect>> WorkerLoop<M, G, O> {
         }
     }
 
-    /// Applies until all is applied that is agreed, or a turn does nothing. False where there is more: behind
-    /// `MOST_APPLIED` places, or where what left is to be told first.
+    /// Applies until all that is agreed is applied, or a turn does nothing. False if there is more: after
+    /// `MOST_APPLIED` places, or if effects are to be reported first.
     pub fn apply_all<R: Wait, S: Stable<M::Command>, U: Upstream>(
         &mut self,
         rt: &R,

@@ -1,4 +1,4 @@
-//! How a node that leads does several inputs by one save.
+//! How a node that leads processes several inputs with one save.
 ghost use Rattle.std.specs.Prelude.{◌≡◌, ◌≤◌, IfErr, IfOk, OnOk, None, length, true};
 ghost use Rattle.std.specs.List.{AllByRecursion};
 ghost use Rattle.raft_log.specs.Batches.{batch_limit};
@@ -22,11 +22,11 @@ use stable_store::Stable;
 use std::alloc::AllocError;
 
 impl<M: Hosted, S: Stable<M::Command>> Node<M, S> {
-    /// Inputs that only append, done one after the other at a node that leads, and saved at once.
-    /// Each has its answer; one that is refused leaves the node to the next as it was.
+    /// Inputs that only append, processed one after the other at a node that leads, and saved at
+    /// once. Each has its answer; one that is refused leaves the node unchanged for the next.
     ///
-    /// Where it answers `Unsaved` the node is down and shows the state from before. None of the inputs
-    /// or all of them may have been saved then.
+    /// If the answer is `Unsaved` the node is down and shows the state from before. Either none of the inputs was saved
+    /// then, or all may have been.
     pub fn step_all(
         &mut self,
         inputs: Vec<Input<Message<M::Command>, M::Command, M::Line>>,

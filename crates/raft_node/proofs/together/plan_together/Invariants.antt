@@ -4,7 +4,7 @@ use Rattle.raft_node.specs.Inputs.{bodies}
 use Rattle.raft_node.proofs.Adding.{UnderWay}
 use Rattle.raft_node.proofs.together.plan_together.Given as goal
 
--- what is left comes to what all come to, behind what was planned so far
+-- what is left gives the result of all, after what was planned so far
 abbrev pub invariant-loop-input : goal.invariant-loop-input
 invariant-loop-input g l =
     (goal.iterator-loop-input g).can_next l.input-iterator

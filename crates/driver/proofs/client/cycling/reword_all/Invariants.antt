@@ -3,7 +3,7 @@ use Rattle.std.specs.Vec.Iter.{into_iter_items}
 use Rattle.driver.specs.Cycling.{parted_all, reworded}
 use Rattle.driver.proofs.client.cycling.reword_all.Given as goal
 
--- what was told and what is left are all, and so it is with the channels that are parted from
+-- what was sent and what is left are all, and so it is with the channels that are parted from
 abbrev pub invariant-loop-request : goal.invariant-loop-request
 invariant-loop-request l =
     record {

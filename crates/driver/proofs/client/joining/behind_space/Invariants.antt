@@ -2,7 +2,7 @@ use Rattle.std.proofs.Common.{◌≡◌, length}
 use Rattle.driver.specs.Opening.{behind_space}
 use Rattle.driver.proofs.client.joining.behind_space.Given as goal
 
--- what stands behind the first space of the rest stands there of all
+-- what follows the first space of the rest follows the first space of all
 abbrev pub invariant-loop-rest : goal.invariant-loop-rest
 invariant-loop-rest l = behind_space l.rest ≡ behind_space l.bytes
 

@@ -4,7 +4,7 @@ use Rattle.driver.specs.Crowds.{Told, told}
 use Rattle.driver.specs.Kicks.{KickEach}
 use Rattle.driver.proofs.clients.Clients.kick_all.Given as goal
 
--- once it comes to what is left, it came to all
+-- once those left are done, all are
 abbrev pub invariant-loop-number : goal.invariant-loop-number
 invariant-loop-number l =
     (new : Told) → KickEach l.channel l.text (into_iter_items l.number-iterator) (told l.self l.orders) new

@@ -44,7 +44,7 @@ kept g = keeper g.S.Stable.saved g.S.Stable.may_stand g.S.Stable.condition
 abbrev Inner : (g : given.Over) → Type 0
 Inner g = Parts g.row.M-Setup.Denot g.row.M.Denot g.row.S.Denot g.row.M-Command.Denot
 
--- what the look of a node at this setup comes to
+-- the result of the look of a node at this setup
 abbrev Comes : (g : given.Over) → g.row.M-Setup.Denot → Inner g → ℕ → g.row.M-Target.Denot → Outcome g.row.M-Effect.Denot g.row.M-Played.Denot → Type 0
 Comes g s q from target o =
     (sent : List (Message g.row.M-Command.Denot)) → turned (machine g s) (Looks from target) q sent ≡ (let t : Turn (machine g s) = record { node = seen q.state sent; out = out_of (machine g s) o } in t)
@@ -61,7 +61,7 @@ SeenOf g = NodeEvent g.row.M-Command.Denot g.row.M-Line.Denot g.row.M-Target.Den
 abbrev CameOf : given.Over → Type 0
 CameOf g = Outcome g.row.M-Effect.Denot g.row.M-Played.Denot
 
--- what comes out where lines are played
+-- what comes out when lines are played
 played_out : (g : given.Over) (s : g.row.M-Setup.Denot) (l : PlayedAt g.row.M-Played.Denot) (o : CameOf g) → IsPlayed l.place l.lines.items o → out_of (machine g s) o ≡ steps.Looked l.place l.lines.items
 played_out g s l Quiet h = absurd h
 played_out g s l (Left p left) h = absurd h
@@ -85,7 +85,7 @@ noted_refused g s b d e f o p is out h = subst (λ (z : SeenOf g × CameOf g). H
 outcome_here : (g : given.Over) (b z : RoomOf g) (recording : Recording) (o : ForRecord (CameOf g)) → recording ≡ z.parts.recording → b ≡ z → IsKept recording o → IsKept b.parts.recording o
 outcome_here g b z recording o e same is = λ on. is (e ∙ ap (λ (y : RoomOf g). y.parts.recording) (sym same) ∙ on)
 
--- what is there anyway is kept
+-- what exists anyway is kept
 whole_kept : {A : Type 0} (recording : Recording) (r : ForRecord A) (x : A) → (r.told.value ≡ x) × (r.kept ≡ Some x) → IsKept recording r
 whole_kept recording r x h = λ on. h.1 ∙ ap Some (sym h.0)
 

@@ -47,7 +47,7 @@ InputOf g = NodeInput g.row.M-Command.Denot g.row.M-Line.Denot
 abbrev NodeOf : given.Over → Type 0
 NodeOf g = Parts g.row.M-Setup.Denot g.row.M.Denot g.row.S.Denot g.row.M-Command.Denot
 
--- the node did the inputs of which the record has copies
+-- the node did the inputs whose copies the record has
 are_done : (g : given.Over) (s t : g.row.M-Setup.Denot) (taken : List (TakenOf g)) (copies : List (InputOf g)) (q q' : NodeOf g) (answers : List Answer) → s ≡ t → taken ≡ map input_of copies
     → AreDone (machine g s) (kept g) taken q answers q' → AreDone (machine g t) (kept g) (map input_of copies) q answers q'
 are_done g s t taken copies q q' answers e same h =

@@ -7,7 +7,7 @@ use Rattle.uplink.specs.Calls.Call.{Failed}
 use Rattle.uplink.proofs.Moments.{failed_after, failed_inputs, failed_replies, fed_after, fed_inputs, fed_replies, late_after, late_inputs, late_replies}
 use Rattle.uplink.proofs.uplink.Uplink.feed.Goals as goal
 
--- where memory is missing, a live uplink is lost
+-- if memory runs out, a live uplink is lost
 lost : {T E : Type 0} → (r : Result T E) (link new : Link) (s : Session) → link.standing ≡ Live s → new.standing ≡ Lost → OnErr r (GoesOn link Failed new [] [])
 lost (Ok v) link new s l n = tt
 lost (Err e) link new s l n =
