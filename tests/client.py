@@ -1,10 +1,10 @@
-"""A client that speaks plain IRC, and waiting for what is to come."""
+"""A client that speaks plain IRC, and functions that wait."""
 
 import socket
 import time
 
 LONGEST = 60  # seconds that anything may take
-PAUSE = 0.02  # seconds between two looks at what is waited for
+PAUSE = 0.02  # seconds between two tries
 
 
 class Late(Exception):
@@ -12,7 +12,7 @@ class Late(Exception):
 
 
 def until(test, what, seconds=LONGEST):
-    """Waits until a test holds, and gives its value. What was waited for is told by a text, or by a call that makes one."""
+    """Waits until a test holds, and returns its value. A text, or a call that makes one, says what was waited for."""
     end = time.monotonic() + seconds
     while True:
         value = test()
@@ -38,7 +38,7 @@ class Client:
         self.say("USER u 0 * :r")
 
     def say(self, line):
-        """Says a line; where the other side is gone it is lost, and `is_open` tells so."""
+        """Says a line; if the other side is gone the line is lost, and `is_open` shows that."""
         try:
             self.socket.settimeout(LONGEST)
             self.socket.sendall(line.encode() + b"\r\n")
@@ -71,7 +71,7 @@ class Client:
         return any(line.endswith(end) for line in self.read())
 
     def wait(self, end):
-        """Waits for a line that ends so."""
+        """Waits for a line with this end."""
 
         def came():
             if self.has(end):
@@ -98,5 +98,5 @@ class Client:
 
 
 def bare(text):
-    """A text without the time in front of it, if it was played."""
+    """A text without its time, if it was played."""
     return text.split("] ", 1)[-1] if text.startswith("[") else text

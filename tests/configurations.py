@@ -1,10 +1,10 @@
-"""Configurations with faults, as the bytes of a file, and the lines that are told of each, without the file's path and a colon
-before each line."""
+"""Configurations with faults, as the bytes of a file, and the lines that are printed for each, without the file's path and a colon before
+each line."""
 
-# the least configuration but for its addresses to listen at, in line 5
+# the smallest configuration without its addresses to listen at, which are line 5
 LISTENING = b'nick = "me"\npassword = "pass"\nupstream = "127.0.0.1:6667"\nstore = "store"\nlisten = '
 
-# the least configuration, in five lines
+# the smallest configuration, in five lines
 LEAST = LISTENING + b'["127.0.0.1:1", "127.0.0.1:2", "127.0.0.1:3"]\n'
 
 UPSTREAM = "3: upstream: needs an address 127.0.0.1:PORT: of a server elsewhere, or with TLS, that of a tunnel to it"
@@ -15,7 +15,7 @@ QUOTES = "invalid value: put a text in quotes"
 
 
 def missing(*keys):
-    """What is told of keys that are needed and not there."""
+    """The lines for keys that are needed and missing."""
     return [f" {key}: is missing" for key in keys]
 
 
@@ -34,7 +34,7 @@ MOST = LEAST.replace(b'"me"', b'"' + b"n" * 64 + b'"').replace(b'"pass"', b'"' +
     ]
 )
 
-# texts that are no TOML
+# texts that are not TOML
 NO_TOML = [
     (b'nick = "me"\npassword = \n', f"2: is no TOML: {EXPECTED}"),
     (b"beat_ms = 01\n", f"1: is no TOML: {EXPECTED}"),
@@ -46,7 +46,7 @@ NO_TOML = [
     (b'nick = "me"\n\xff\n', "2: is no TOML: invalid UTF-8"),
 ]
 
-# texts without keys that are needed or with bad ones
+# texts without keys that are needed, or with bad ones
 NEEDED = [
     (b"", missing("nick", "password", "upstream", "listen", "store")),
     (b"nick = 3", ["1: nick: needs a text", *missing("password", "upstream", "listen", "store")]),
@@ -127,7 +127,7 @@ OPTIONAL = [
     (b"channels = [" + channels(101) + b"]", "6: channels: takes at most 100 names"),
 ]
 
-# further lines with a name that no key has: the nearest key is told, where one is near
+# further lines with a name that no key has: the closest key is named, if one is close
 NAMES = [
     (b'chanels = ["#x"]', "6: chanels: is no key of a configuration: did you mean channels?"),
     (b"Log = 1", "6: Log: is no key of a configuration: did you mean log?"),
@@ -136,7 +136,7 @@ NAMES = [
     (b"colour = 1", "6: colour: is no key of a configuration"),
 ]
 
-# further lines with several faults, which are told in the order of the lines
+# further lines with several faults, which are reported in the order of the lines
 SEVERAL = [
     (
         b'log = "loud"\nbeat_ms = 9\nchannels = ["x"]\n',
@@ -157,7 +157,7 @@ SEVERAL = [
     ),
 ]
 
-# keys that are missing beside other faults, and addresses that are the same beside a server that is none
+# keys that are missing beside other faults, and equal addresses beside a bad server
 BESIDE = [
     (
         LEAST.replace(b'nick = "me"\n', b"").replace(b'"store"', b'""') + b"flood_burst = 0\n",

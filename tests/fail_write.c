@@ -1,5 +1,5 @@
-// Fails each write to the files whose path ends in a line of the file named by FAILING, as long as that file is there, with the
-// system's error of the number FAILS_WITH, or EIO.
+// Fails each write to the files whose path ends in a line of the file named by FAILING, as long as that file exists, with the
+// system error FAILS_WITH (a number), or EIO.
 #define _GNU_SOURCE
 #include <dlfcn.h>
 #include <errno.h>

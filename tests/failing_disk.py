@@ -1,5 +1,5 @@
-"""A disk that fails when it is told to: the kernel asks this process before a program writes to a file or syncs it (seccomp's
-user notifications, from Linux 5.5 on). It needs no rights, no library and no compiler."""
+"""A disk that fails on demand: the kernel asks this process before a program writes to a file or syncs it (seccomp's user notifications,
+from Linux 5.5 on). It needs no rights, no library and no compiler."""
 
 import ctypes
 import errno
@@ -26,7 +26,7 @@ class Filter(ctypes.Structure):
 
 
 def steps():
-    """What the kernel does with a system call: it asks of those above, and allows all others."""
+    """What the kernel does with a system call: it asks about those above, and allows all others."""
     def step(code, if_true, if_false, value):
         return struct.pack("HBBI", code, if_true, if_false, value)
 
@@ -37,8 +37,8 @@ def steps():
 
 
 class FailingDisk:
-    """Starts a program by `preexec_fn=disk.watched`, then `disk.begin()`. `fail("/node-2")` makes each write to a file whose
-    path ends so fail until `mend()`."""
+    """Start a program with `preexec_fn=disk.watched`, then call `disk.begin()`. `fail("/node-2")` makes each write to a file whose path
+    ends with this fail until `mend()`."""
 
     def __init__(self):
         self.ours, self.its = socket.socketpair(socket.AF_UNIX, socket.SOCK_DGRAM)
@@ -57,7 +57,7 @@ class FailingDisk:
         os.close(listener)
 
     def begin(self):
-        """Answers the kernel from here on, in a thread of its own."""
+        """Answers the kernel from here on, in its own thread."""
         _, given, _, _ = self.ours.recvmsg(8, socket.CMSG_SPACE(4))
         self.listener = struct.unpack("i", given[0][2])[0]
         threading.Thread(target=self.answer_all, daemon=True).start()
@@ -80,12 +80,12 @@ class FailingDisk:
                 reply = struct.pack("Qqi I".replace(" ", ""), number, 0, -fault, 0 if fault else GO_ON)
                 fcntl.ioctl(self.listener, REPLY, bytearray(reply))
             except OSError as error:
-                # the call that was asked of is no more
+                # the call is no longer there
                 if error.errno not in (errno.ENOENT, errno.EINTR):
                     return
 
     def fault(self, thread, file):
-        """What a call on a file of a thread fails with, 0 where it does not."""
+        """The error with which a thread's call on a file fails, 0 if it does not."""
         if self.end is None:
             return 0
         try:
@@ -96,7 +96,7 @@ class FailingDisk:
 
 
 def is_possible():
-    """Whether this system lets a program's writes be watched."""
+    """Whether this system can watch a program's writes."""
     if platform.machine() != "x86_64":
         return False
     child = os.fork()

@@ -1,4 +1,4 @@
-"""What a bouncer does whose nodes' journals fail: cases of tests/edge."""
+"""What a bouncer does when its nodes' journals fail: cases of tests/edge."""
 
 import os
 import random
@@ -17,7 +17,7 @@ BURSTS = 32
 
 
 def no_majority(room):
-    """A leader whose followers are down is told what waits once, and it goes out once they are back."""
+    """A leader whose followers are down is sent what waits once, and it goes out once they are back."""
     control = os.path.join(room, "failing")
     environment = {"LD_PRELOAD": built(room, "fail_write"), "FAILING": control}
     server, bouncer = running(room, "no-majority", environment=environment, timeout_ms="300", beat_ms="60")
@@ -34,7 +34,7 @@ def no_majority(room):
     say_all(client, wanted)
     time.sleep(3)
     grown = len(journal.bodies(path)) - before
-    # a node that fails to start takes a new number each time, of which word is entered once
+    # a node that fails to start takes a new number each time, and that is entered once
     check("the log does not fill", grown <= len(wanted) + 20, grown)
     os.unlink(control)
     until(lambda: sorted(set(server.said())) == sorted(wanted), lambda: f"all lines, of which came {server.said()}")
@@ -43,7 +43,7 @@ def no_majority(room):
 
 
 def claims_without_a_majority(room):
-    """The claim of a line that a leader makes while its followers are down is entered once, and the line goes out once."""
+    """If a leader claims a line while its followers are down, the claim is entered once, and the line goes out once."""
     control = os.path.join(room, "failing")
     environment = {"LD_PRELOAD": built(room, "fail_write"), "FAILING": control}
     more = {"flood_burst": "1", "flood_ms": "1000", "timeout_ms": "300", "beat_ms": "60"}
@@ -70,8 +70,8 @@ def claims_without_a_majority(room):
 
 
 def faults_at_random(room):
-    """Nodes' journals fail at random while people at all nodes talk: what comes to the server comes once and in order, nobody
-    is hung up without a word, and each line that was said on a connection that stayed comes."""
+    """Nodes' journals fail at random while people at all nodes talk: what reaches the server arrives once and in order, nobody is cut off
+    without a reason, and each line that was said on a connection that stayed arrives."""
     control = os.path.join(room, "failing")
     environment = {"LD_PRELOAD": built(room, "fail_write"), "FAILING": control}
     server, bouncer = running(room, "faults", environment=environment, timeout_ms="300", beat_ms="60")
@@ -81,23 +81,23 @@ def faults_at_random(room):
         kept = person.kept()
         lacking = lambda: [text for text in kept if text not in server.said()]
         until(lambda: not lacking(), lambda: f"of node {person.node}'s lines these: {lacking()}\n{bouncer.log()}", 20)
-    check("each line of a connection that stayed comes", True)
+    check("each line of a connection that stayed arrives", True)
     came = server.said()
-    check("none comes twice", len(came) == len(set(came)), came)
+    check("none arrives twice", len(came) == len(set(came)), came)
     for person in people:
         said = [text for text, _ in person.said]
         places = [said.index(text) for text in came if text in said]
         check(f"in the order of who said them, at node {person.node}", places == sorted(places), places)
     ends = [end for person in people for end in person.ends]
-    check("who is hung up is told why", all(end.startswith("ERROR :") for end in ends), ends)
+    check("a client that is cut off gets the reason", all(end.startswith("ERROR :") for end in ends), ends)
     said = sum(len(person.said) for person in people)
     figures("faults at random", f"{count} faults, {len(ends)} hung up, {said} lines said, {len(came)} came")
     check("it ends", bouncer.end() == 0)
 
 
 def bursts_while_the_leader_fails(room):
-    """Lines that come in bursts are saved together. Where the leader's journal fails in such a save, none of them stands twice in
-    the log, those that do stand there in order, and the record of the run replays."""
+    """Lines that come in bursts are saved together. If the leader's journal fails in such a save, none of them is in the log twice, those
+    that are in it are in order, and the record of the run replays."""
     control, record = os.path.join(room, "failing"), os.path.join(room, "bursts.record")
     environment = {"LD_PRELOAD": built(room, "fail_write"), "FAILING": control}
     server, bouncer = running(room, "bursts", environment=environment, timeout_ms="300", beat_ms="60", record=f'"{record}"')
@@ -121,7 +121,7 @@ def bursts_while_the_leader_fails(room):
     check("it ends", bouncer.end() == 0)
     log = b"\n".join(journal.bodies(bouncer.journal(leader)))
     came = [int(number) for number in re.findall(rb"PRIVMSG #x :line (\d+)", log)]
-    check("no line of a burst stands twice in the log", len(came) == len(set(came)), came)
+    check("no line of a burst is in the log twice", len(came) == len(set(came)), came)
     check("in order", came == sorted(came), came)
     stops = bouncer.log().count(": down: ")
     check("the leader's journal failed", stops >= 3, bouncer.log())
@@ -130,8 +130,8 @@ def bursts_while_the_leader_fails(room):
 
 
 def a_node_that_goes_down(room):
-    """Clients of a node that goes down are told so and let go at once, new ones too, and a client that attaches elsewhere
-    then is played what came since."""
+    """Clients of a node that goes down get the reason and are closed at once, new ones too, and a client that then attaches elsewhere is
+    played what came since."""
     control = os.path.join(room, "failing")
     server, bouncer = running(room, "down", environment={"LD_PRELOAD": built(room, "fail_write"), "FAILING": control})
     node = bouncer.followers()[0]
@@ -142,8 +142,8 @@ def a_node_that_goes_down(room):
     bouncer.wait(f" node {node}: down: ")
     gone = time.monotonic()
     client.wait_closed()
-    check("it is let go at once", time.monotonic() - gone < 0.5, time.monotonic() - gone)
-    check("it is told why", client.lines[-1:] == [f"ERROR :node {node} is down"], client.lines[-3:])
+    check("it is closed at once", time.monotonic() - gone < 0.5, time.monotonic() - gone)
+    check("it gets the reason", client.lines[-1:] == [f"ERROR :node {node} is down"], client.lines[-3:])
     until(lambda: bouncer.is_refusing(node), f"node {node} refuses connections", 1)
     time.sleep(0.1)
     came = [f"came {number}" for number in range(20)]

@@ -1,4 +1,4 @@
-// While the file named by HANGING is there, each sync of a file whose path ends in one of its lines waits, until that file is
+// While the file named by HANGING exists, each sync of a file whose path ends in one of its lines waits, until that file is
 // gone, or for two minutes at most.
 #define _GNU_SOURCE
 #include <dlfcn.h>

@@ -1,4 +1,4 @@
-"""What the tests of a running bouncer share: checks, waiting, ports, bouncers, and the run of the cases."""
+"""What the tests of a running bouncer share: checks, waits, ports, bouncers, and the run of the cases."""
 
 import os
 import shutil
@@ -13,7 +13,7 @@ from client import Client, Late, until, LONGEST, PAUSE
 
 TOP = os.path.dirname(os.path.dirname(os.path.realpath(__file__)))
 PROGRAM = os.environ.get("BOUNCER", "")  # else found by program_is_there
-os.umask(0o077)  # passwords stand in the configurations
+os.umask(0o077)  # passwords are in the configurations
 STAYS = 0.5  # seconds after which a leader is taken to stay
 passed = failed = 0
 counting = threading.Lock()
@@ -34,14 +34,14 @@ def check(name, holds, shown=""):
 
 
 def figures(name, text):
-    """What was measured, where it is asked for."""
+    """What was measured, if it is asked for."""
     if "TIMES" in os.environ:
         print(f"{name}: {text}", flush=True)
 
 
 class Ports:
-    """Ports that nobody else gets, chosen by the system, all different. They are bound here and not listened at, so that a
-    program that asks to use an address again may listen there, and nobody else is given them, also while it is down."""
+    """Ports that nobody else gets, chosen by the system, all different. They are bound here but nothing listens, so that a program that
+    asks to reuse an address may listen there, and nobody else is given them, even while it is down."""
 
     def __init__(self, count):
         self.holders = [socket.socket() for _ in range(count)]
@@ -52,7 +52,7 @@ class Ports:
 
 
 class Bouncer:
-    """A program that runs three nodes, or as many as are asked for."""
+    """A program that runs three nodes, or another number."""
 
     def __init__(self, folder, upstream_port, nodes=3, **more):
         self.folder = folder
@@ -98,7 +98,7 @@ class Bouncer:
             return log.read()
 
     def wait(self, words, times=1):
-        """Waits until the log has these words, so many times."""
+        """Waits until the log has these words this many times."""
 
         def came():
             if self.log().count(words) >= times:
@@ -110,7 +110,7 @@ class Bouncer:
         until(came, lambda: f"{words!r} {times} times in the log:\n{self.log()}")
 
     def leader(self):
-        """The node that led last, by its number."""
+        """The number of the node that led last."""
         return [int(line.split(" node ")[1][0]) for line in self.log().splitlines() if " leads in term " in line][-1]
 
     def leaders(self):
@@ -133,7 +133,7 @@ class Bouncer:
         return self
 
     def ready(self):
-        """All nodes are up, and there is a session, of a leader that stays: soon after a start another one may be chosen."""
+        """All nodes are up, and there is a session, of a leader that stays: soon after a start another one may be elected."""
         self.up()
         until(self.stays, lambda: f"a leader that stays:\n{self.log()}")
         return self
@@ -147,7 +147,7 @@ class Bouncer:
         return is_open and self.leaders() == before
 
     def end(self):
-        """Ends standard input. The exit code."""
+        """Ends standard input. Returns the exit code."""
         self.process.stdin.close()
         return self.process.wait(LONGEST)
 
@@ -157,7 +157,7 @@ class Bouncer:
         self.process.stdin.close()
 
     def is_refusing(self, node):
-        """Whether a node's address refuses connections, as where it is down."""
+        """Whether a node's address refuses connections, as when the node is down."""
         try:
             socket.create_connection(("127.0.0.1", self.ports[node - 1]), LONGEST).close()
             return False
@@ -165,7 +165,7 @@ class Bouncer:
             return True
 
     def attach(self, node, nick="me", password="pw"):
-        """A client that a node took. A node that is not up takes none."""
+        """A client that a node accepted. A node that is not up accepts none."""
         end = time.monotonic() + LONGEST
         while True:
             try:
@@ -185,8 +185,8 @@ class Bouncer:
 
 
 def said(*words, folder=None, environment=None):
-    """What the program answers to these words, in a folder and an environment, while its standard input is held open: the exit
-    code, and the lines of its output and of its errors."""
+    """What the program answers to these arguments, in this folder and environment, while its standard input is held open: the exit code,
+    and the lines of its output and of its errors."""
     reading, writing = os.pipe()
     room = {"cwd": folder, "env": {**os.environ, **(environment or {})}}
     try:
@@ -198,7 +198,7 @@ def said(*words, folder=None, environment=None):
 
 
 def program_is_there():
-    """Finds the program, and builds it where there is none of these sources, unless another one is named."""
+    """Finds the program, and builds it if there is none of these sources, unless another one is named."""
     global PROGRAM
     if "BOUNCER" not in os.environ:
         which = subprocess.run([os.path.join(TOP, "bouncer"), "--which"], stdout=subprocess.PIPE, text=True)
@@ -207,7 +207,7 @@ def program_is_there():
 
 
 def run_case(case, room):
-    """Runs a case in this room. What it waited for in vain is a failure."""
+    """Runs a case in this folder. If a wait was in vain, that is a failure."""
     begun = time.monotonic()
     try:
         case(room)
@@ -218,7 +218,7 @@ def run_case(case, room):
 
 
 def run_at_once(cases, room, most):
-    """Runs the cases, at most so many at once, each in a thread of its own. A fault of a case's own is a failure, too."""
+    """Runs the cases, at most this many at once, each in its own thread. An exception in a case is a failure, too."""
     turns = threading.Semaphore(most)
 
     def guarded(case):
@@ -236,7 +236,7 @@ def run_at_once(cases, room, most):
 
 
 def note_children():
-    """The list of all processes that are started from now on."""
+    """A list of all processes that are started from now on."""
     children = []
     start = subprocess.Popen.__init__
 
@@ -249,8 +249,8 @@ def note_children():
 
 
 def run_cases(cases, seconds, at_once=1):
-    """Runs the cases in a room of their own, so many at once, at most for so many seconds, ends what they started, and tells how
-    many checks passed."""
+    """Runs the cases in a new folder, this many at once, for at most this many seconds, ends what they started, and prints how many
+    checks passed."""
     global failed
 
     def too_long(*_):
@@ -269,7 +269,7 @@ def run_cases(cases, seconds, at_once=1):
                 run_case(case, room)
     except TooLong:
         failed += 1
-        print(f"failed: this is cut off, since it takes more than {seconds} s", flush=True)
+        print(f"failed: cut off after {seconds} s", flush=True)
     finally:
         signal.alarm(0)
         for child in children:

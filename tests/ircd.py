@@ -14,7 +14,7 @@ marks = itertools.count()
 
 
 class Server:
-    """An IRC server, with further lines of its configuration, and of what it limits."""
+    """An IRC server, with further lines of its configuration and its limits."""
 
     def __init__(self, folder, more=(), limits=()):
         self.held = Ports(1)
@@ -65,7 +65,7 @@ def peer(room, nick, channel="#x"):
 
 
 def hears(client, other, channel="#x"):
-    """Waits until a client hears at once what another one says in a channel: all that was said before came, too."""
+    """Waits until a client hears at once what another one says in a channel: everything said before has then arrived, too."""
     for _ in range(MARKS):
         mark = f"mark {next(marks)}"
         other.say(f"PRIVMSG {channel} :{mark}")

@@ -10,7 +10,7 @@ ASKED, BLANK, CLAIM, SAID = b"\x01", b"\x02", b"\x00\x01", b"\x00\x00\x00\x02"  
 
 
 def said(line, at=1_700_000_000):
-    """A line that came from the server, as a body."""
+    """A line from the server, as a body."""
     text = line.encode()
     return SAID + struct.pack(">QH", at, len(text)) + text
 
@@ -23,7 +23,7 @@ def heard(line, at):
 
 
 def records(data):
-    """What each open record of a journal holds."""
+    """The content of each open record of a journal."""
     place = len(HEADER)
     while place < len(data) and data[place] != 0:
         (length,) = struct.unpack_from(">I", data, place + 1)
@@ -49,12 +49,12 @@ def bodies(path):
 
 
 def count(path, beginning):
-    """How many bodies of a journal's log begin so."""
+    """How many bodies of a journal's log begin with this."""
     return sum(body.startswith(beginning) for body in bodies(path))
 
 
 def make(path, log, boot=1, term=1):
-    """Makes a journal that holds these bodies, all of one term."""
+    """Makes a journal with these bodies, all of one term."""
     with open(path, "wb") as file:
         file.write(HEADER)
         for first in range(0, max(len(log), 1), MOST_ENTRIES):

@@ -1,4 +1,4 @@
-"""Lists of bodies at random, as nodes may have agreed on them (docs/FORMATS.md, "Values as bytes")."""
+"""Random lists of bodies, as nodes may have agreed on them (docs/FORMATS.md, "Values as bytes")."""
 
 import said
 
@@ -8,7 +8,7 @@ PEOPLE = ["ann", "Ann", "bob", "cy", "me", "dee", "x!y"]
 NICKS = ["me", "ME", "you"]
 NAMES = ["phone", "desk", "web", "Phone"]
 LONG = 480  # letters with which a line from the server has nearly no room for more
-LONG_SAID = 497  # with these a client's message is a line of 509 bytes, and one of more than 511 behind a nick, as it is kept
+LONG_SAID = 497  # with these a client's message is a line of 509 bytes, and as it is kept, after a nick, one of more than 511
 TO_BUFFERS, TO_FENCE, TO_CLAIMS = b"\0\0\0", b"\0\0", b"\0"  # how bodies begin
 CLIENT, UPSTREAM, GONE, UP, DOWN = b"\1", b"\2", b"\3", b"\4", b"\5"
 OPENED, SHUT, HEARD = b"\1", b"\2", b"\3"
@@ -18,7 +18,7 @@ PASS = b"\x0e"
 
 
 def text(dice):
-    """What somebody says: mostly a letter."""
+    """What somebody says: usually a letter."""
     letter = dice.choice("abcdefghij")
     return dice.choice([letter] * 4 + [f":{letter}", f"{letter} and more", f"\1ACTION {letter}\1", f"\1ACTION {letter}", "\1VERSION\1"])
 
@@ -49,7 +49,7 @@ def line(dice):
 
 
 def action(dice):
-    """What a client asks for. That it attaches, leaves or says something comes as often as all else."""
+    """What a client asks for. It attaches, leaves or says something as often as it does anything else."""
     channel, target = dice.choice(CHANNELS), dice.choice(CHANNELS + PEOPLE)
     words = dice.choice(
         ["attach"] * 3
@@ -79,7 +79,7 @@ class Clients:
         return said.origin(f"{node}.{self.dice.choice(self.boots[node])}.{self.dice.randrange(1, 3)}")
 
     def request(self, at):
-        """A request with its client's next number, and seldom with another one; or what a client without numbers asks."""
+        """A request with its client's next number, and seldom with another one; or what a client without numbers asks for."""
         origin, what = self.origin(), action(self.dice)
         if self.dice.randrange(4) == 0:
             return TO_BUFFERS + CLIENT + origin + at + what
@@ -96,8 +96,8 @@ class Clients:
 
 
 class Sessions:
-    """Sessions of a term: what is heard in them, and claims of what goes out, which seldom are of an older session or have
-    another number than the next."""
+    """Sessions of a term: what comes in them, and claims of what goes out, which seldom are of an older session or have another number
+    than the next."""
 
     def __init__(self, dice, term):
         self.dice, self.term, self.attempt, self.heard_last, self.claimed_last = dice, term, 0, 0, 0
@@ -124,7 +124,7 @@ class Sessions:
 
 
 def bodies(dice, count, boots, term, second):
-    """So many bodies of a session and more, of clients of these runs of each node, from this second on."""
+    """Bodies of a session and others, this many, of clients of these runs of each node, from this second on."""
     clients, sessions = Clients(dice, boots), Sessions(dice, term)
     log = [sessions.opened()]
     for place in range(1, count):
@@ -152,14 +152,13 @@ def from_fold(body):
 
 
 class Fence:
-    """What of the bodies of nodes comes to the buffers, as bodies of a fold: a session in force lets each of its lines in once, in
-    order."""
+    """Which of the nodes' bodies reach the buffers, as bodies of a fold: a session in force lets each of its lines in once, in order."""
 
     def __init__(self):
         self.newest, self.open, self.heard_last = b"", False, 0
 
     def lowered(self, body):
-        """What of a body comes to the buffers."""
+        """What of a body reaches the buffers."""
         if body[:1] != TO_CLAIMS:
             return [body]
         if body[:3] == TO_BUFFERS:

@@ -1,8 +1,8 @@
 // Does to the files `node-..` what Linux does to files: a sync that fails leaves their pages clean in the cache, where reads find
-// them, though they never come to the disk. The folder named by DISK has what lies on the disk: what was synced.
+// them, though they never reach the disk. The folder named by DISK has what is on the disk: what was synced.
 //
-// LOSES names a file. While it is there and has a line `node-N record SIZE`, the next sync of that journal behind a write of so many
-// bytes or more fails; with `node-N gate SIZE` the next one behind a write of one byte that follows such a write. Then that file is
+// LOSES names a file. While it exists and has a line `node-N record SIZE`, the next sync of that journal after a write of that many
+// bytes or more fails; with `node-N gate SIZE` the next one after a write of one byte that follows such a write. Then that file is
 // removed.
 #define _GNU_SOURCE
 #include <dlfcn.h>
@@ -45,7 +45,7 @@ static const char *last_part(const char *path) {
     return slash ? slash + 1 : path;
 }
 
-// the journal that is open here, or none where another file is
+// the journal that is open here, or none if another file is
 static struct journal *journal_at(int fd) {
     char link[64], path[4096];
     struct stat found;
@@ -95,7 +95,7 @@ ssize_t write(int fd, const void *bytes, size_t count) {
     return done;
 }
 
-// whether this journal's sync is the one that is to fail
+// whether this journal's sync is the one that has to fail
 static int fails(const struct journal *journal) {
     const char *control = getenv("LOSES");
     char name[256], what[16];
@@ -110,7 +110,7 @@ static int fails(const struct journal *journal) {
     return is_meant;
 }
 
-// what is dirty comes to the disk
+// what is dirty reaches the disk
 static void keep(int fd, struct journal *journal) {
     char path[4096], page[PAGE];
     struct stat found;

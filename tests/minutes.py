@@ -1,8 +1,8 @@
 #!/usr/bin/env python3
-"""How many processor minutes the gate takes by crate: of its proof, of the proof of its tests, and of its wrong code.
+"""How many processor minutes the gate takes for each crate: for its proof, the proof of its tests, and its wrong code.
 
 `tests/minutes.py PROCESS FILE` looks every two seconds at the checks that run below a process, until that ends, and keeps the table in
-the file, those that take longest first. `check` prints it. What a check does in its last two seconds may be missed."""
+the file, the longest first. `check` prints it. What a check does in its last two seconds may be missed."""
 
 import collections
 import os
@@ -21,7 +21,7 @@ def read(path):
 
 
 def stat_of(process):
-    """The parent of a process, when it began, and the seconds that it has taken of a processor."""
+    """The parent of a process, when it began, and the processor seconds that it has used."""
     fields = read(f"/proc/{process}/stat").rpartition(")")[2].split()
     return int(fields[1]), fields[19], (int(fields[11]) + int(fields[12])) / TICK
 
@@ -47,7 +47,7 @@ def checks_below(top):
 
 
 def write(path, taken):
-    """The table, a crate a line, and the sums."""
+    """The table, one crate per line, and the sums."""
     minutes = collections.defaultdict(lambda: [0.0] * len(KINDS))
     for (crate, kind), seconds in taken.values():
         minutes[crate][kind] += seconds / 60

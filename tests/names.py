@@ -1,4 +1,4 @@
-"""Clients that give a name as they attach: each name has its own place in every buffer."""
+"""Clients that give a name when they attach: each name has its own place in every buffer."""
 
 import os
 import subprocess
@@ -29,7 +29,7 @@ class Device:
         hears(self.client, other)
 
     def leave(self, other):
-        """It leaves, and nothing more is shown to it: what is said later at its node came behind its leave."""
+        """It leaves, and nothing more is shown to it: what is said later at its node came after its leave."""
         hears(self.client, other)
         self.client.say("QUIT")
         self.client.wait_closed()
@@ -45,7 +45,7 @@ def lines(client):
 
 
 def failing_writes(room):
-    """The environment in which a journal fails that a file names, and the path of that file."""
+    """The environment in which the journal that a file names fails, and the path of that file."""
     shim = os.path.join(room, "fail_write_of_names.so")
     source = os.path.join(harness.TOP, "tests", "fail_write.c")
     subprocess.run(["gcc", "-shared", "-fPIC", "-o", shim, source, "-ldl"], check=True)
@@ -54,8 +54,8 @@ def failing_writes(room):
 
 
 def named(room):
-    """Two clients with names leave ten times and come back at other nodes, while one without a name stays, and the node that
-    leads goes down meanwhile: each is shown each line once, in order."""
+    """Two clients with names leave ten times and come back at other nodes, while one without a name stays, and the node that leads goes
+    down meanwhile: each is shown each line once, in order."""
     environment, control = failing_writes(room)
     bouncer = bouncer_in(room, "named", chan_buffer_size="500").start(**environment).ready()
     old = bouncer.leader()
@@ -102,15 +102,15 @@ def named(room):
     plain_one = bouncer.attach(stays[1])
     plain_one.wait("JOIN #x")
     hears(plain_one, gus)
-    check("a client without a name is played all that is kept", lines(plain_one) == said, (lines(plain_one), said))
+    check("a client without a name is played everything kept", lines(plain_one) == said, (lines(plain_one), said))
     log = bouncer.log()
-    check("the log tells who attached", " is phone" in log and " is laptop" in log and "pw" not in log, log[-2000:])
+    check("the log says who attached", " is phone" in log and " is laptop" in log and "pw" not in log, log[-2000:])
     check("it ends", bouncer.end() == 0)
     gus.close()
 
 
 def fails(bouncer, node, control, other):
-    """The node's journal fails as something is said, so that it goes down, and another one leads."""
+    """The node's journal fails when something is said, so that it goes down, and another one leads."""
     with open(control, "w") as names:
         names.write(f"/node-{node}")
     other.say("PRIVMSG #x :mark of the end")
@@ -118,7 +118,7 @@ def fails(bouncer, node, control, other):
 
 
 def wrong_names(room):
-    """A name that is none is a wrong password, and a password that holds marks is a password."""
+    """An invalid name is a wrong password, and a password that contains the marks is a password."""
     bouncer = bouncer_in(room, "marks", password='"a@b:c"').start().ready()
     for password, is_taken in (("a@b:c", True), ("x@phone:a@b:c", True), ("x@b:c", False), ("@:a@b:c", False), ("phone:a@b:c", False)):
         client = harness.Client(bouncer.ports[0], "me", password)

@@ -1,4 +1,4 @@
-/* Loaded before the C library: with READS=interrupted each read is interrupted, with READS=bytes each gives one byte at most. */
+/* Loaded before the C library: with READS=interrupted each read is interrupted, with READS=bytes each returns one byte at most. */
 #define _GNU_SOURCE
 #include <errno.h>
 #include <stdlib.h>

@@ -6,21 +6,21 @@ import time
 
 from client import Client
 
-LINES = 3  # that each person says a second
+LINES = 3  # lines a second that each person says
 
 
 class Person:
-    """A person at one node, who says numbered lines, and attaches again when hung up."""
+    """A person at one node, who says numbered lines, and attaches again when cut off."""
 
     def __init__(self, bouncer, node):
         self.bouncer, self.node = bouncer, node
         self.client = None
         self.count = 0
         self.said = []  # each line, and the client on which it was said
-        self.ends = []  # the last line of each connection that was hung up
+        self.ends = []  # the last line of each connection that was cut off
 
     def go_on(self):
-        """Says a line, where there is a connection on which to say it."""
+        """Says a line, if there is a connection on which to say it."""
         if self.client is None:
             self.come()
             return
@@ -41,13 +41,12 @@ class Person:
             self.client = None
 
     def kept(self):
-        """The lines said on a connection that was not hung up."""
+        """The lines said on a connection that was not cut off."""
         return [text for text, client in self.said if client.read() is not None and client.is_open]
 
 
 def talk_while_journals_fail(people, control, seconds, seed):
-    """People talk while the journals of nodes fail, one at a time, at moments and for as long as chance will have it. How
-    often one did."""
+    """People talk while the journals of nodes fail, one at a time, at random moments and for a random time. How often one did."""
     chosen = random.Random(seed)
     begun = time.monotonic()
     moment, fails, count = 1.0, False, 0

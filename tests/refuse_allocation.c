@@ -1,6 +1,5 @@
-/* Loaded before the C library: refuses the allocation whose number, from 1, is in REFUSE, and writes a file of the name in TOLD
- * once it has. Where MARK is set, only those are counted that are asked for between an allocation of so many bytes and the next
- * one of as many. */
+/* Loaded before the C library: fails the allocation whose number, from 1, is in REFUSE, and then writes a file of the name in TOLD.
+ * If MARK is set, it counts only those between an allocation of that many bytes and the next one of as many. */
 #define _GNU_SOURCE
 #include <dlfcn.h>
 #include <errno.h>
@@ -11,7 +10,7 @@
 static long seen;
 static int is_within;
 
-/* Whether an allocation of so many bytes is one that counts. */
+/* Whether an allocation of this many bytes counts. */
 static int counts(size_t size)
 {
     const char *mark = getenv("MARK");

@@ -1,8 +1,8 @@
 #!/usr/bin/env python3
-"""Writes the lines that `bouncer fold` reads, by bodies in words, one a line of standard input: `up`, `down`, `gone 2 2` (the
-runs of node 2 below its second), `heard 0 :a!b@c PRIVMSG #x :hi` (a line from upstream at the second 0, which is 22:13:20),
-`1.1.1 #2 play #x` (a client's second request, at the second 0; `attach phone` is an attaching by name), `blank`, and
-`mark 2.5.7` (the mark 7 of the run 5 of node 2)."""
+"""Writes the lines that `bouncer fold` reads from bodies in words, one per line of standard input: `up`, `down`, `gone 2 2` (the runs of
+node 2 below its second), `heard 0 :a!b@c PRIVMSG #x :hi` (a line from upstream at the second 0, which is 22:13:20), `1.1.1 #2 play #x` (a
+client's second request, at the second 0; `attach phone` attaches with a name), `blank`, and `mark 2.5.7` (the mark 7 of the run 5 of node
+2)."""
 
 import sys
 
@@ -19,7 +19,7 @@ KINDS = {
     "clear": 9,
     "size": 13,
 }
-NAMED = 15  # attaches by a name
+NAMED = 15  # attaches with a name
 
 
 def number(word, length):
@@ -35,7 +35,7 @@ def field(text):
 
 
 def origin(word):
-    """`node.boot.client`, or `node.boot.number` of a mark."""
+    """`node.boot.client`, or `node.boot.number` for a mark."""
     node, boot, client = word.split(".")
     return number(node, 1) + number(boot, 8) + number(client, 8)
 
@@ -62,7 +62,7 @@ def request(words):
 
 
 def body(words):
-    """The bytes of a body in words."""
+    """The bytes of a body given in words."""
     first, _, rest = words.partition(" ")
     second, _, last = rest.partition(" ")
     if first == "up":

@@ -13,7 +13,7 @@ SHOWN = 0.3  # seconds after which a screen shows what was typed
 
 
 class Screen:
-    """A program in a terminal of its own."""
+    """A program in its own terminal."""
 
     count = 0
 
@@ -38,7 +38,7 @@ class Screen:
         return subprocess.run([*self.tmux, "has-session"], stderr=subprocess.DEVNULL).returncode == 0
 
     def shows(self, other, channel):
-        """Whether it comes to show what another one says in a channel now."""
+        """Whether it shows what another one says in a channel now."""
         mark = f"mark {time.monotonic()}"
         self.type(f"/window goto {channel}")
         other.say(f"PRIVMSG {channel} :{mark}")
@@ -57,12 +57,12 @@ class Irssi(Screen):
     def __init__(self, room, port):
         super().__init__(room, f"irssi --home={os.path.join(room, 'irssi')} -n me")
         self.wait("[(status)]")
-        # else it waits between its commands, for the sake of servers that count them
+        # else it waits between its commands, for servers that count them
         self.type("/set cmd_queue_speed 10msec")
         self.type(f"/connect 127.0.0.1 {port} pw")
 
     def window(self, channel):
-        """The number of the window of a channel, which is shown then, if there is one."""
+        """The number of a channel's window, which is then shown, if there is one."""
         self.type(f"/window goto {channel}")
         time.sleep(SHOWN)
         found = re.search(rf"\[(\d+):\S*{channel}[\](]", self.text())
@@ -77,7 +77,7 @@ class Weechat(Screen):
         super().__init__(room, f"weechat -d {os.path.join(room, f'weechat-{port}-{Screen.count}')} -r '{connects}'")
 
     def window(self, channel):
-        """The number of the buffer of a channel, which is shown then, if there is one."""
+        """The number of a channel's buffer, which is then shown, if there is one."""
         self.type(f"/buffer {channel}")
         time.sleep(SHOWN)
         found = re.search(rf"\] (\d+):{channel}[\s({{]", self.text())

@@ -1,4 +1,4 @@
-// Sets the clocks ahead, or back, by as many seconds as the file named by SHIFT says, as long as that file is there: its first
+// Sets the clocks ahead, or back, by as many seconds as the file named by SHIFT says, as long as that file exists: its first
 // number is for the time of day, its second for the clock that never goes back.
 #define _GNU_SOURCE
 #include <fcntl.h>

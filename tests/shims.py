@@ -9,7 +9,7 @@ building = threading.Lock()
 
 
 def built(room, name):
-    """The library of this name, built in a room."""
+    """The library of this name, built in this folder."""
     library = os.path.join(room, f"{name}.so")
     with building:
         if not os.path.exists(library):

@@ -1,4 +1,4 @@
-// Each read and write at a place of a file `node-..` moves at most as many bytes as MOST says, as the system may on a disk that
+// Each read and write at a place of a file `node-..` moves at most MOST bytes, as the system may do on a disk that
 // fills up.
 #define _GNU_SOURCE
 #include <dlfcn.h>

@@ -1,4 +1,4 @@
-// Makes syncs slow: each takes SYNC_MS longer, and where the file named by SLOW is there, the next sync of a file whose path
+// Makes syncs slow: each takes SYNC_MS longer, and if the file named by SLOW exists, the next sync of a file whose path
 // ends in its first word takes as many milliseconds as its second word says, once.
 #define _GNU_SOURCE
 #include <dlfcn.h>

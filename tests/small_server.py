@@ -1,4 +1,4 @@
-"""The small IRC server of the examples, in a thread of a test's own."""
+"""The small IRC server of the examples, in a thread of the test."""
 
 import importlib.util
 import os
@@ -8,7 +8,7 @@ EXAMPLES = os.path.join(os.path.dirname(os.path.dirname(os.path.realpath(__file_
 
 
 def small_server():
-    """A server that listens from here on. Its port."""
+    """A server that listens from here on. Returns its port."""
     found = importlib.util.spec_from_file_location("small_ircd", os.path.join(EXAMPLES, "ircd.py"))
     small = importlib.util.module_from_spec(found)
     found.loader.exec_module(small)

@@ -1,4 +1,4 @@
-"""A server that the tests play: it takes every session, keeps what is said to #x, and says what it is told to say there."""
+"""A server that the tests play: it accepts every session, keeps what is said to #x, and says there what a test wants."""
 
 import os
 import selectors
@@ -25,7 +25,7 @@ def attached(bouncer, node):
 
 
 def flooded(client):
-    """The numbers of a flood's lines that a client was shown, played or as they came, in order."""
+    """The numbers of a flood's lines that a client was shown, played or live, in order."""
     texts = [bare(text) for text in client.texts("#x")]
     return [int(text.removeprefix("flood ")) for text in texts if text.startswith("flood ")]
 
@@ -36,7 +36,7 @@ def say_all(client, texts):
 
 
 class Flood(threading.Thread):
-    """A server that says numbered lines in #x, so many a second, until it is stopped."""
+    """A server that says numbered lines in #x, this many a second, until it is stopped."""
 
     def __init__(self, server, rate):
         super().__init__(daemon=True)
@@ -58,8 +58,8 @@ class Flood(threading.Thread):
 
 
 class StandIn:
-    """A server, in a thread of its own while it is there. Nobody is given a nick that is taken; one of a session is, until that is
-    closed, which it is so many seconds after it said QUIT or was left."""
+    """A server, in its own thread while it is there. Nobody is given a nick that is taken; a session's nick is taken until it is closed,
+    which happens this many seconds after it sent QUIT or its connection ended."""
 
     def __init__(self, taken=(), late=0.0):
         self.taken = taken
@@ -73,7 +73,7 @@ class StandIn:
         self.heard = []  # each line that came, with its moment
         self.live = []  # all sessions, those too that ended
         self.is_mute = False  # it answers no PING
-        self.keys = {}  # of channels, without which nobody joins them
+        self.keys = {}  # channels with keys, without which nobody joins them
         self.parting = 0.0  # seconds that it takes over a PART, before it reads on
         self.open()
 
@@ -85,14 +85,14 @@ class StandIn:
         self.thread.start()
 
     def close(self):
-        """It goes away: no session is taken any more, and those that there are end."""
+        """It goes away: no session is accepted any more, and existing ones end."""
         self.is_open = False
         self.thread.join()
 
     def run(self, listener):
         room = selectors.DefaultSelector()
         room.register(listener, selectors.EVENT_READ, None)
-        ending = []  # sessions that are closed soon, with their moments
+        ending = []  # sessions that will soon be closed, with their moments
         while self.is_open:
             for moment, session in [over for over in ending if over[0] <= time.monotonic()]:
                 ending.remove((moment, session))
@@ -117,7 +117,7 @@ class StandIn:
             self.joined = None
 
     def read(self, session):
-        """Reads what came of a session. Whether it lasts."""
+        """Reads what came in a session. Returns whether it lasts."""
         try:
             data = session.stream.recv(65536)
         except OSError:
@@ -141,7 +141,7 @@ class StandIn:
             return self.joined is not None
 
     def say(self, text):
-        """Says a line in #x; it is lost where there is no session."""
+        """Says a line in #x; it is lost if there is no session."""
         with self.lock:
             if self.joined is not None:
                 self.joined.send(f":eve!e@h PRIVMSG #x :{text}")
@@ -165,7 +165,7 @@ class Session:
         self.server = server
         self.rest = b""
         self.said = []
-        self.is_joined = False  # it joined #x just now
+        self.is_joined = False  # it has just joined #x
         self.nick = None
         self.has_quit = False
         self.has_user = self.is_registered = False
@@ -198,7 +198,7 @@ class Session:
             self.said.append(line.split(" :", 1)[1])
 
     def join(self, channels, keys):
-        """These channels are joined, but for those that want another key."""
+        """These channels are joined, except those that need another key."""
         for place, channel in enumerate(channels):
             wanted = self.server.keys.get(channel)
             if wanted is None or keys[place : place + 1] == [wanted]:

@@ -1,6 +1,6 @@
-// Counts the calls by which a program changes files and folders: each that writes, syncs, makes, renames or removes. With STOP_AT
-// the program is killed (SIGKILL) in place of the call of that number, from 1 on; with FAIL_AT that call fails, with ENOSPC. With
-// REFUSED each call of that name fails, with EACCES. CALLS names a file that the calls' names are written to, a line each.
+// Counts the calls with which a program changes files and folders: each that writes, syncs, makes, renames or removes. With STOP_AT
+// the program is killed (SIGKILL) in place of the call with that number, from 1; with FAIL_AT that call fails, with ENOSPC. With
+// REFUSED each call of that name fails, with EACCES. CALLS names a file to which the calls' names are written, one per line.
 #define _GNU_SOURCE
 #include <dlfcn.h>
 #include <errno.h>
@@ -33,7 +33,7 @@ static void note(const char *name) {
     close(file);
 }
 
-// whether a call of this name is to fail; errno says why
+// whether a call of this name has to fail; errno says why
 static int fails(const char *name) {
     const char *refused = getenv("REFUSED");
     note(name);

@@ -1,9 +1,9 @@
-"""The story of `./demo`: an IRC server, a bouncer of three nodes over it, a client in a terminal, and what happens to a chat when
-a client leaves and when a disk fails.
+"""The story of `./demo`: an IRC server, a bouncer of three nodes, a client in a terminal, and what happens to a chat when a client leaves
+and when a disk fails.
 
-It shows the story above and the client below, in tmux; a key ends it. `--script` prints the story without a terminal. Server and
-disk are small ones of this repository. The client is irssi where it is installed, else examples/chat.py. It keeps to the
-loopback, and leaves nothing behind.
+It shows the story above and the client below, in tmux; a key ends it. `--script` prints the story without a terminal. Server and disk are
+small ones of this repository. The client is irssi if it is installed, else examples/chat.py. It uses only the loopback, and leaves
+nothing behind.
 """
 
 import os
@@ -26,7 +26,7 @@ from small_server import EXAMPLES, small_server
 
 CHANNEL = "#hukbarg"
 MISSED = ("are you there?", "the meeting is at ten", "bring the report")
-WORDS_A_SECOND = 4  # so fast a step is read
+WORDS_A_SECOND = 4  # how fast a step is read
 END = 30  # seconds for which the last step stays
 HALF = "50%"
 
@@ -58,7 +58,7 @@ class Pane(Screen):
         run("split-window", "-v", "-b", "-l", HALF, f"{reader}; tmux kill-server")
         run("set-hook", "-g", "client-attached", f"resize-pane -t %1 -y {HALF}")
         run("set-hook", "-g", "client-resized", f"resize-pane -t %1 -y {HALF}")
-        # within a tmux, too
+        # also inside a tmux
         environment = {key: value for key, value in os.environ.items() if key != "TMUX"}
         subprocess.run([*self.tmux, "attach-session"], env=environment)
 
@@ -69,7 +69,7 @@ class Irssi(Pane):
     def __init__(self, room, port):
         super().__init__(room, f"irssi --home={os.path.join(room, 'irssi')} -n me", port)
         self.wait("[(status)]")
-        # else it waits between its commands, for the sake of servers that count them
+        # else it waits between its commands, for servers that count them
         self.type("/set cmd_queue_speed 10msec")
         # a pane of a small terminal has few rows
         self.type("/set show_names_on_join off")
@@ -80,7 +80,7 @@ class Irssi(Pane):
         until(self.is_in_channel, lambda: f"a window of {CHANNEL}:\n{self.text()}")
 
     def is_in_channel(self):
-        """Shows the window of the channel. Whether it has one."""
+        """Shows the window of the channel. Returns whether it has one."""
         self.type(f"/window goto {CHANNEL}")
         time.sleep(SHOWN)
         return re.search(rf"\[\d+:\S*{CHANNEL}[\](]", self.text())
@@ -128,7 +128,7 @@ class Told:
 
 
 class Story:
-    """What is told, to a file and, without a terminal, to standard output."""
+    """Writes what is told to a file and, without a terminal, to standard output."""
 
     def __init__(self, room, is_script):
         self.path = os.path.join(room, "story")
@@ -137,7 +137,7 @@ class Story:
         open(self.path, "w").close()
 
     def tell(self, text, seconds=None):
-        """Tells one step more, and leaves it on the screen for a while."""
+        """Tells one more step, and leaves it on the screen for a while."""
         with open(self.path, "a") as file:
             print(f"\n{text}", file=file)
         if self.is_script:
@@ -154,7 +154,7 @@ def client_of(is_script):
 
 
 class Group:
-    """A server, a bouncer over it, a client at node 1, and Ann, who is at the server."""
+    """A server, a bouncer connected to it, a client at node 1, and Ann, who is at the server."""
 
     def __init__(self, room, is_script):
         port = small_server()
@@ -233,7 +233,7 @@ def tell_all(story, group):
 
 
 def play(story, group, faults):
-    """Tells the story, and ends the terminal behind it. Why it was cut short is a fault."""
+    """Tells the story, and then ends the terminal. A reason for which it was cut short is a fault."""
     try:
         tell_all(story, group)
     except Ended:
@@ -245,7 +245,7 @@ def play(story, group, faults):
 
 
 def run(room, is_script):
-    """Tells the story in this room. Why it was cut short, if it was."""
+    """Tells the story in this folder. Why it was cut short, if it was."""
     story, faults = Story(room, is_script), []
     if not is_script:
         print("demo: a server and three nodes begin ..", flush=True)

@@ -8,11 +8,11 @@ import termios
 import textwrap
 import tty
 
-LOOK = 0.2  # seconds between two looks at the file
+LOOK = 0.2  # seconds between two checks of the file
 
 
 def lines_of(text, width):
-    """The text in lines that fit. A step begins behind an empty line, and its further lines stand below its words."""
+    """The text in lines that fit. A step begins after an empty line, and its further lines are below its words."""
     lines = []
     for step in text.split("\n"):
         lines += textwrap.wrap(step, width - 2, initial_indent=" ", subsequent_indent="    ") or [""]

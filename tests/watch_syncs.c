@@ -1,5 +1,5 @@
-// Notes in the file named by SYNCS each write and each sync of a file whose name begins with node-, and each sync of a folder:
-// a line each, `write NAME`, `sync NAME` or `folder PATH`.
+// Notes in the file named by SYNCS each write and each sync of a file whose name begins with node-, and each sync of a folder,
+// one per line: `write NAME`, `sync NAME` or `folder PATH`.
 #define _GNU_SOURCE
 #include <dlfcn.h>
 #include <fcntl.h>
