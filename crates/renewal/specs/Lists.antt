@@ -1,9 +1,10 @@
 -- Lists of bodies that are renewed. A history has each body with its place, the newest first.
-use Rattle.std.specs.Prelude.{◌≡◌, ℕ, ◌+◌, ◌≤◌, ◌<◌, Bool, true, false, if◌then◌else◌, is_some, ◌==◌, List, [], ◌∷◌, ◌++◌, length, map, drop, filter}
+use Rattle.std.specs.Prelude.{◌≡◌, ◌⊎◌, ℕ, ◌+◌, ◌≤◌, ◌<◌, Bool, true, false, if◌then◌else◌, is_some, ◌==◌, List, [], ◌∷◌, ◌++◌, length, map, drop, filter}
 use Rattle.std.specs.List.{list_all}
 use Rattle.irc_line.specs.Lines.{Parts}
 use Rattle.wire_bytes.specs.declared.origin.Origin.{Origin}
 use Rattle.wire_bytes.specs.declared.session_id.SessionId.{SessionId}
+use Rattle.wire_bytes.specs.Limits.{number_limit}
 use Rattle.irc_line.specs.Keys.{is_in}
 use Rattle.buffer_targets.specs.Targets.{ChannelLines, channel_names}
 use Rattle.machine_laws.specs.Origins.{same_origin}
@@ -130,6 +131,16 @@ floors_from node (boot ∷ boots) = (node, boot + 2) ∷ floors_from (node + 1) 
 -- for all nodes, node 1 first
 abbrev pub floors_of : List ℕ → List (ℕ × ℕ)
 floors_of boots = floors_from 1 boots
+
+-- after the first of these runs, or after this term, no number is left; or there is no run
+abbrev pub IsSpent : List ℕ → ℕ → Type 0
+IsSpent [] term = Unit {0}
+IsSpent (boot ∷ boots) term = (number_limit < boot + 1) ⊎ (number_limit < term + 1)
+
+-- one of these runs leaves no number for its floor
+abbrev pub AreSpent : List ℕ → Type 0
+AreSpent [] = ⊥
+AreSpent (boot ∷ boots) = (number_limit < boot + 2) ⊎ AreSpent boots
 
 -- the client of a renewal: its run of node 1 is above the greatest one
 abbrev pub client_of : List ℕ → Origin

@@ -1,10 +1,11 @@
 //! Renewing a log.
-ghost use Rattle.std.specs.Prelude.{◌≡◌, ◌≢◌, ◌≤◌, ◌+◌, ◌++◌, ◌∷◌, [], length, map, false, IfErr, IfOk, OnOk};
+ghost use Rattle.std.specs.Prelude.{◌≡◌, ◌≢◌, ◌≤◌, ◌<◌, ◌⊎◌, ◌+◌, ◌++◌, ◌∷◌, [], length, map, false, IfErr, IfOk, OnOk};
 ghost use Rattle.machine_laws.specs.Runs.{History};
 ghost use Rattle.buffer_commands.specs.Settings.{Settings};
 ghost use Rattle.bouncer_tower.specs.Bodies.{TowerBody};
 ghost use Rattle.raft_log.specs.declared.entry.Entry.{Entry};
-ghost use Rattle.renewal.specs.Lists.{AreCounted, IsRenewal, are_known, client_of, entry_of, floors_from, floors_of, settled_log};
+ghost use Rattle.wire_bytes.specs.Limits.{node_limit, number_limit};
+ghost use Rattle.renewal.specs.Lists.{AreCounted, AreSpent, IsRenewal, IsSpent, are_known, client_of, entry_of, floors_from, floors_of, settled_log};
 
 use crate::anew::{begun_anew, buffers_of};
 use crate::bound::{kept_in_channels, kept_in_queries};
@@ -86,6 +87,7 @@ fn behind(number: Number, by: u64) -> Result<Number, RenewalFault>
     requires { by ≤ 2 }
     ensures next { IfOk result (λ n. n ≡ number + by) }
     ensures fault { IfErr result (λ e. e ≡ RenewalFault.Spent) }
+    ensures spent { IfErr result (λ _. number_limit < number + by) }
 {
     if number.value() + by > LAST_NUMBER {
         return Err(RenewalFault::Spent);
@@ -98,6 +100,7 @@ fn start_of(boots: &[Number], term: Number) -> Result<Start, RenewalFault>
     ensures term { IfOk result (λ s. s.term ≡ term + 1) }
     ensures client { IfOk result (λ s. s.client ≡ client_of boots.now) }
     ensures fault { IfErr result (λ e. e ≡ RenewalFault.Spent) }
+    ensures spent { IfErr result (λ _. IsSpent boots.now term) }
 {
     let [boot, ..] = boots else {
         return Err(RenewalFault::Spent);
@@ -113,6 +116,8 @@ fn start_of(boots: &[Number], term: Number) -> Result<Start, RenewalFault>
 fn floors_of(alloc: Global, boots: &[Number]) -> Result<Vec<(u8, Number)>, RenewalFault>
     ensures floors { IfOk result (λ v. v.items ≡ floors_of boots.now) }
     ensures fault { IfErr result (λ e. e ≢ RenewalFault.UnknownName) }
+    ensures spent { IfErr result (λ e. e ≡ RenewalFault.Spent
+        → (node_limit < length boots.now) ⊎ AreSpent boots.now) }
 {
     if boots.len() > MOST_NODES as usize {
         return Err(RenewalFault::Spent);
@@ -132,6 +137,7 @@ fn push_floors(
     ensures floors { OnOk result
         (floors.new.items ≡ floors.old.items ++ floors_from node boots.now) }
     ensures fault { IfErr result (λ e. e ≢ RenewalFault.UnknownName) }
+    ensures spent { IfErr result (λ e. e ≡ RenewalFault.Spent → AreSpent boots.now) }
 {
     match boots {
         [] => Ok(()),
