@@ -93,3 +93,11 @@ mod ClientCalls
 mod GoneClients
 mod Lapsing
 mod OwnOrders
+mod Phases
+mod PhaseBytes
+mod PhaseClients
+mod PhaseEnds
+mod PhaseNodes
+mod PhaseReports
+mod PhaseTold
+mod Phasing

@@ -31,6 +31,7 @@ pub mod Led
 pub mod Links
 pub mod Nicks
 pub mod Once
+pub mod Ordering
 pub mod Opening
 pub mod Operators
 pub mod Outages

@@ -10,6 +10,7 @@ ghost use Rattle.driver.specs.Joining.{JoinsFit};
 ghost use Rattle.driver.specs.Keys.{KeysAreLearnt};
 ghost use Rattle.driver.specs.Led.{IsOfLeaderHeard, IsOfLeaderTicked};
 ghost use Rattle.driver.specs.Once.{AsksOnce, AsksOwn};
+ghost use Rattle.driver.specs.Ordering.{SessionsAreTold};
 ghost use Rattle.driver.specs.Pacing.{IsPaced};
 ghost use Rattle.driver.specs.Queueing.{DropsWhatWaits, OpeningGoesFirst, QuestionsWait, SaidAreCounted, SaidGoInOrder};
 ghost use Rattle.driver.specs.Quitting.{SessionsEndFirst};
@@ -135,4 +136,12 @@ pub fn keys_are_learnt()
 /// closed this one, or had a second to.
 pub fn sessions_end_first()
     ensures { SessionsEndFirst }
+{}
+
+/// Over every list of calls of a driver, with each connection to the server: at most one node is told that the session
+/// opened, and is told so once; after that only this node gets lines of it, until it is logged that the session ended.
+/// Right after that this node may be told so, and until the next connection is asked for no node is told anything of a
+/// session.
+pub fn sessions_are_told()
+    ensures { SessionsAreTold }
 {}
