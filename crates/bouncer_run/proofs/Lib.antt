@@ -1,4 +1,5 @@
 pub mod CheckFaults
+pub mod Delivered
 pub mod Elements
 pub mod Entries
 pub mod SomeFolders
@@ -8,3 +9,5 @@ pub mod Movements
 pub mod Over
 pub mod PasswordTexts
 pub mod Places
+pub mod Sent
+pub mod Submitted

@@ -2,6 +2,7 @@ pub mod Checks
 pub mod ClusterFaults
 pub mod Configs
 pub mod Connections
+pub mod Deliveries
 pub mod Faults
 pub mod Groups
 pub mod Guests
@@ -11,8 +12,10 @@ pub mod Limits
 pub mod Moving
 pub mod Opened
 pub mod Pasts
+pub mod Sendings
 pub mod Settings
 pub mod Stopping
+pub mod Submissions
 pub mod Turns
 pub mod Watches
 pub mod LoopMessages

@@ -1,4 +1,7 @@
 //! What happens at the clients' connections, told to the driver.
+ghost use Rattle.std.specs.Prelude.{◌≡◌, [], false, None};
+ghost use Rattle.bouncer_run.specs.Deliveries.{AreOthersSame, HasWritten, guest_at};
+
 use crate::connection::{Got, Reading};
 use crate::edge_news::EdgeNews;
 use crate::event_loop::LoopFault;
@@ -67,7 +70,11 @@ impl Sockets {
     }
 
     /// A client registered at its node.
-    pub fn register(&mut self, number: u64) {
+    pub fn register(&mut self, number: u64)
+        ensures client { HasWritten [] false (guest_at self.old number) (guest_at self.new number) }
+        ensures others { AreOthersSame number self.old self.new }
+        ensures server { self.new.server ≡ self.old.server }
+    {
         if let Some(guest) = self.clients.get_mut(&number) {
             guest.stage = Stage::Registered;
         }
@@ -95,7 +102,11 @@ impl Sockets {
         now: &Now,
         driver: &mut Driver,
         number: u64,
-    ) -> Result<(), LoopFault> {
+    ) -> Result<(), LoopFault>
+        ensures gone { guest_at self.new number ≡ None }
+        ensures others { AreOthersSame number self.old self.new }
+        ensures server { self.new.server ≡ self.old.server }
+    {
         if driver.is_attached(number) {
             self.register(number);
         }
@@ -105,7 +116,11 @@ impl Sockets {
     }
 
     /// A client's connection is closed.
-    pub fn forget_client(&mut self, now: &Now, number: u64) -> Result<(), LoopFault> {
+    pub fn forget_client(&mut self, now: &Now, number: u64) -> Result<(), LoopFault>
+        ensures gone { guest_at self.new number ≡ None }
+        ensures others { AreOthersSame number self.old self.new }
+        ensures server { self.new.server ≡ self.old.server }
+    {
         let Some(guest) = self.clients.remove(&number) else {
             return Ok(());
         };

@@ -1,5 +1,5 @@
 //! A connection, with what is still to be written to it.
-ghost use Rattle.std.specs.Prelude.{◌≡◌, ◌&&◌, ◌==◌, not, false, length, IfOk, IsTrue};
+ghost use Rattle.std.specs.Prelude.{◌≡◌, ◌&&◌, ◌==◌, [], not, false, length, IfOk, IsTrue};
 ghost use Rattle.bouncer_run.specs.Connections.{gathered, is_ending, is_late, is_later, may_wait};
 ghost use Rattle.bouncer_run.specs.Moving.{Moves};
 
@@ -67,7 +67,10 @@ pub struct Connection<S: Read + Write + Drop> {
 }
 
 impl<S: Read + Write + Drop> Connection<S> {
-    pub fn new(alloc: Global, stream: S) -> Connection<S> {
+    pub fn new(alloc: Global, stream: S) -> Connection<S>
+        ensures empty { result.unsent ≡ [] }
+        ensures phase { is_ending result.phase ≡ false }
+    {
         Connection {
             stream,
             unsent: Outgoing::new(alloc),

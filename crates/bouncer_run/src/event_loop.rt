@@ -1,17 +1,18 @@
 //! The loop.
-ghost use Rattle.std.specs.Prelude.{◌≡◌, IfOk, OnOk};
+ghost use Rattle.std.specs.Prelude.{◌≡◌, IfOk, IsTrue, OnOk};
 ghost use Rattle.bouncer_run.specs.LoopMessages.{IsHeard, is_end};
 
+use crate::carrying::carry_out_all;
 use crate::clock::{Clockwork, Ticks};
 use crate::edge_news::EdgeNews;
 use crate::inlet::LoopMessage;
-use crate::loop_news::{tell_edge, tell_news};
+use crate::loop_news::tell_edge;
 use crate::operator::Operator;
 use crate::sockets::Sockets;
 use crate::stopping::Stopping;
 use crate::store_watch::StoreWatch;
 use crossbeam_channel::Receiver;
-use driver::{Driver, Now, Order, TowerNote};
+use driver::{Driver, Now, TowerNote};
 use mio::Events;
 use raft_log::NodeId;
 use std::alloc::{AllocError, Global};
@@ -20,7 +21,6 @@ use std::net::Net;
 use std::rt::Clock;
 use std::sync::Wait;
 use std::time::Duration;
-use std::vec::IntoIter;
 use thiserror::Error;
 
 /// How many sockets are told of at once.
@@ -52,11 +52,19 @@ impl From<AllocError> for LoopFault {
     }
 }
 
-/// The nodes' workers, as the loop speaks to them.
+/// The nodes' workers, as the loop speaks to them. What is proved of the loop is proved over any of them: then nothing
+/// but `tell` says that a node was told a note.
 pub trait Nodes {
+    ghost use Rattle.std.specs.Prelude.{ℕ};
+    ghost use Rattle.bouncer_run.specs.Submissions.{TowerNote};
+
+    /// That this node was told this note, and they are as they are since.
+    ghost has_told: { Self → ℕ → TowerNote → Self → Type 0 };
+
     /// A node's worker is told something. Whether it was: else there was no memory, or the worker
     /// ended.
-    fn tell<R: Wait>(&self, rt: &R, node: NodeId, note: TowerNote) -> bool;
+    fn tell<R: Wait>(&mut self, rt: &R, node: NodeId, note: TowerNote) -> bool
+        ensures told { IsTrue result → has_told self.old node note self.new };
 }
 
 /// Waits for sockets, for messages and for time to pass, until it is told to end, and clients that attached are
@@ -67,7 +75,7 @@ pub fn run_loop<R: Net + Wait + Clock + Files, N: Nodes, O: Operator>(
     tick_ms: u64,
     driver: &mut Driver,
     sockets: &mut Sockets,
-    nodes: &N,
+    nodes: &mut N,
     messages: &Receiver<LoopMessage>,
     watch: &mut StoreWatch,
     operator: &mut O,
@@ -174,67 +182,4 @@ fn hear_message(now: &Now, driver: &mut Driver, message: LoopMessage) -> Result<
         LoopMessage::End => return Ok(true),
     }
     Ok(false)
-}
-
-/// Does what the driver orders, until it orders nothing more; then what waits at the sockets is
-/// written.
-fn carry_out_all<R: Net + Wait, N: Nodes, O: Operator>(
-    rt: &R,
-    now: &Now,
-    driver: &mut Driver,
-    sockets: &mut Sockets,
-    nodes: &N,
-    operator: &mut O,
-) -> Result<(), LoopFault> {
-    for _ in 0..u64::MAX {
-        let orders = driver.orders();
-        if orders.is_empty() && !sockets.flush_all(now, driver)? {
-            break;
-        }
-        carry_out_each(rt, now, driver, sockets, nodes, operator, orders)?;
-    }
-    Ok(())
-}
-
-/// Does these orders, in turn. What is written to one client by orders that follow each other is written
-/// at once.
-fn carry_out_each<R: Net + Wait, N: Nodes, O: Operator>(
-    rt: &R,
-    now: &Now,
-    driver: &mut Driver,
-    sockets: &mut Sockets,
-    nodes: &N,
-    operator: &mut O,
-    orders: Vec<Order>,
-) -> Result<(), LoopFault> {
-    let mut rest = orders.into_iter();
-    let mut next = rest.next();
-    for _ in 0..u64::MAX {
-        let Some(order) = next else {
-            break;
-        };
-        next = carry_out(rt, now, driver, sockets, nodes, operator, order, &mut rest)?;
-    }
-    Ok(())
-}
-
-/// Does what the driver orders. The next order, of those that are left.
-fn carry_out<R: Net + Wait, N: Nodes, O: Operator>(
-    rt: &R,
-    now: &Now,
-    driver: &mut Driver,
-    sockets: &mut Sockets,
-    nodes: &N,
-    operator: &mut O,
-    order: Order,
-    rest: &mut IntoIter<Order, Global>,
-) -> Result<Option<Order>, LoopFault> {
-    match order {
-        Order::Submit(node, note) => if !nodes.tell(rt, node, note) {
-            return Err(LoopFault::Memory);
-        },
-        Order::Log(news) => return tell_news(now, driver, sockets, operator, news, rest),
-        other => return sockets.carry_out(rt, now, driver, other, rest),
-    }
-    Ok(rest.next())
 }

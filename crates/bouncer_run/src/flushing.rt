@@ -1,4 +1,7 @@
 //! What waits to be written, and connections that are to be closed.
+ghost use Rattle.std.specs.Prelude.{◌≡◌, [], true};
+ghost use Rattle.bouncer_run.specs.Deliveries.{AreOthersSame, HasWritten, guest_at};
+
 use crate::event_loop::LoopFault;
 use crate::sockets::Sockets;
 use driver::{Driver, Now};
@@ -55,7 +58,11 @@ impl Sockets {
     }
 
     /// A client's connection is to be closed, behind what is still to be written.
-    pub fn close(&mut self, now: &Now, number: u64) {
+    pub fn close(&mut self, now: &Now, number: u64)
+        ensures client { HasWritten [] true (guest_at self.old number) (guest_at self.new number) }
+        ensures others { AreOthersSame number self.old self.new }
+        ensures server { self.new.server ≡ self.old.server }
+    {
         if let Some(guest) = self.clients.get_mut(&number) {
             guest.connection.end(now.ms);
         }

@@ -1,11 +1,13 @@
 //! `bouncer run`: the nodes of a bouncer, their clients and the server, until standard input ends. One loop waits for
 //! all sockets, and never for one alone; beside it stand what the configuration says, the journals, and what is told.
-//! Stands under bouncer_app. There are as many nodes as the configuration has addresses, node N over the Nth journal;
-//! what waits for a connection is the rest of what was written, in order. No contract says what else the loop does.
+//! Stands under bouncer_app. There are as many nodes as the configuration has addresses, node N over the Nth journal.
+//! What the driver orders waits for its client or for the server, or is told to its node, once and in order; what waits
+//! for a connection is the rest of what was written. No contract says what else the loop does.
 #![tactic(auto)]
 
 mod absent;
 mod accepting;
+mod carrying;
 mod checking;
 mod clients;
 mod clock;

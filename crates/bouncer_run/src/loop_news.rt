@@ -1,4 +1,7 @@
 //! What the loop tells an operator, and clients.
+ghost use Rattle.std.specs.Prelude.{◌≡◌, []};
+ghost use Rattle.bouncer_run.specs.Deliveries.{AreDone};
+
 use crate::edge_news::EdgeNews;
 use crate::event_loop::LoopFault;
 use crate::gone::tell_gone;
@@ -6,74 +9,54 @@ use crate::operator::Operator;
 use crate::reasons::shown;
 use crate::sockets::Sockets;
 use buffer_commands::Action;
-use driver::{Driver, News, Now, Order};
-use irc_line::Name;
+use driver::{Driver, News, Now, TowerNote};
 use node_notes::Note;
 use raft_log::NodeId;
 use request_once::Body;
 use std::alloc::{AllocError, Global};
-use std::vec::IntoIter;
-use wire_bytes::{Copied, Origin};
+use wire_bytes::Copied;
 
-/// An operator is told of news, and by which name a client attached. The next order, of those that are left.
+/// An operator is told by which name a client attached, where this asks that it is attached by one. It may be asked
+/// again, and is told once.
+pub fn tell_name<O: Operator>(
+    now: &Now,
+    sockets: &mut Sockets,
+    operator: &mut O,
+    note: &TowerNote,
+) -> Result<(), AllocError>
+    ensures clients { sockets.new.clients ≡ sockets.old.clients }
+    ensures server { sockets.new.server ≡ sockets.old.server }
+{
+    let Note::Ask(Body::Asked(origin, _, _, Action::Attach(Some(name)))) = note else {
+        return Ok(());
+    };
+    if sockets.newcomer == Some(*origin) {
+        sockets.newcomer = None;
+        let node = NodeId::new(origin.node());
+        let name = name.copy(sockets.alloc)?;
+        operator.hear_edge(now, EdgeNews::Named(node, origin.client(), name));
+    }
+    Ok(())
+}
+
+/// An operator is told of news, and so are clients whom they concern.
 pub fn tell_news<O: Operator>(
     now: &Now,
     driver: &mut Driver,
     sockets: &mut Sockets,
     operator: &mut O,
     news: News,
-    rest: &mut IntoIter<Order, Global>,
-) -> Result<Option<Order>, LoopFault> {
-    let has_come = matches!(news, News::Attached(_));
-    log(now, driver, sockets, operator, news)?;
-    let next = rest.next();
-    if let Some(asked) = &next {
-        if has_come {
-            tell_name(now, sockets.alloc, operator, asked)?;
-        }
-    }
-    Ok(next)
-}
-
-/// An operator is told by which name a client attached, where that is what is asked.
-fn tell_name<O: Operator>(
-    now: &Now,
-    alloc: Global,
-    operator: &mut O,
-    asked: &Order,
-) -> Result<(), AllocError> {
-    if let Some((origin, name)) = named(asked) {
-        let node = NodeId::new(origin.node());
-        let name = name.copy(alloc)?;
-        operator.hear_edge(now, EdgeNews::Named(node, origin.client(), name));
-    }
-    Ok(())
-}
-
-/// The client that asks to attach by a name, and the name.
-fn named(order: &Order) -> Option<(Origin, &Name)> {
-    match order {
-        Order::Submit(_, Note::Ask(Body::Asked(origin, _, _, Action::Attach(Some(name))))) => {
-            Some((*origin, name))
-        }
-        _ => None,
-    }
-}
-
-/// An operator is told of news, and so are clients whom they concern.
-fn log<O: Operator>(
-    now: &Now,
-    driver: &mut Driver,
-    sockets: &mut Sockets,
-    operator: &mut O,
-    news: News,
-) -> Result<(), LoopFault> {
+) -> Result<(), LoopFault>
+    ensures clients { AreDone [] sockets.old sockets.new }
+    ensures server { sockets.new.server ≡ sockets.old.server }
+{
     if let News::NotJoined(node, number) = news {
         return tell_absent(now, driver, sockets.alloc, operator, node, number);
     }
     tell_clients(sockets.alloc, driver, &news)?;
     if let News::Attached(origin) = news {
         sockets.register(origin.client());
+        sockets.newcomer = Some(origin);
     }
     tell_operator(now, sockets, operator, news);
     if let News::Opened(node) = news {

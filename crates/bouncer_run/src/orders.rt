@@ -1,69 +1,56 @@
 //! What the driver orders at the sockets.
+ghost use Rattle.std.specs.Prelude.{◌≡◌, [], false, None, Some, OnOk};
+ghost use Rattle.bouncer_run.specs.Deliveries.{AreOthersSame, HasWritten, guest_at};
+ghost use Rattle.bouncer_run.specs.Sendings.{Awaits, HasSent};
+
 use crate::connection::ending_of;
 use crate::event_loop::LoopFault;
 use crate::sockets::Sockets;
-use driver::{Driver, Ending, Now, Order};
-use std::alloc::Global;
+use driver::{Driver, Ending, Now};
 use std::net::Net;
-use std::vec::IntoIter;
 
 /// What the server is told at the end.
 const QUIT: &[u8] = b"QUIT\r\n";
 
 impl Sockets {
-    /// Does what the driver orders at a socket. The next order, of those that are left.
-    pub fn carry_out(
-        &mut self,
-        net: &impl Net,
-        now: &Now,
-        driver: &mut Driver,
-        order: Order,
-        rest: &mut IntoIter<Order, Global>,
-    ) -> Result<Option<Order>, LoopFault> {
-        match order {
-            Order::Write(number, bytes) => {
-                return self.write(now, driver, number, bytes, rest);
-            }
-            Order::Close(number) => self.close(now, number),
-            Order::Connect => if let Err(error) = self.connect(net) {
-                self.drop_server(now, driver, ending_of(error.kind()))?;
-            },
-            Order::Send(bytes) => self.send(now, driver, bytes.as_slice())?,
-            Order::Disconnect => self.disconnect(now),
-            Order::Submit(_, _) | Order::Log(_) => {}
-        }
-        Ok(rest.next())
-    }
-
-    /// Bytes go to a client, and so do those of the orders behind, up to the first that is none for it: its
-    /// connection is looked up once for all of them. The next order, of those that are left.
-    fn write(
+    /// Bytes go to a client. It is gone where too much would wait for it.
+    pub fn write(
         &mut self,
         now: &Now,
         driver: &mut Driver,
         number: u64,
-        bytes: Vec<u8>,
-        rest: &mut IntoIter<Order, Global>,
-    ) -> Result<Option<Order>, LoopFault> {
+        bytes: &[u8],
+    ) -> Result<(), LoopFault>
+        ensures client { OnOk result (HasWritten bytes.now false
+            (guest_at self.old number) (guest_at self.new number)) }
+        ensures others { AreOthersSame number self.old self.new }
+        ensures server { self.new.server ≡ self.old.server }
+    {
         let Some(guest) = self.clients.get_mut(&number) else {
-            return Ok(rest.next());
+            return Ok(());
         };
-        let mut bytes = bytes;
-        for _ in 0..u64::MAX {
-            if !guest.write(bytes.as_slice())? {
-                self.drop_client(now, driver, number)?;
-                return Ok(rest.next());
-            }
-            bytes = match rest.next() {
-                Some(Order::Write(other, more)) if other == number => more,
-                next => return Ok(next),
-            };
+        if guest.write(bytes)? {
+            return Ok(());
         }
-        Ok(None)
+        self.drop_client(now, driver, number)
+    }
+
+    /// The server is connected to, or its connection is gone.
+    pub fn reach(&mut self, net: &impl Net, now: &Now, driver: &mut Driver) -> Result<(), LoopFault>
+        ensures clients { self.new.clients ≡ self.old.clients }
+        ensures server { OnOk result (Awaits (Some []) self.new.server) }
+    {
+        match self.connect(net) {
+            Ok(()) => Ok(()),
+            Err(error) => self.drop_server(now, driver, ending_of(error.kind())),
+        }
     }
 
     /// Bytes go to the server.
-    fn send(&mut self, now: &Now, driver: &mut Driver, bytes: &[u8]) -> Result<(), LoopFault> {
+    pub fn send(&mut self, now: &Now, driver: &mut Driver, bytes: &[u8]) -> Result<(), LoopFault>
+        ensures clients { self.new.clients ≡ self.old.clients }
+        ensures sent { OnOk result (HasSent bytes.now self.old.server self.new.server) }
+    {
         let Some(connection) = &mut self.server else {
             return Ok(());
         };
@@ -74,7 +61,10 @@ impl Sockets {
     }
 
     /// The connection to the server is closed, behind what was sent, as far as it takes that at once.
-    fn disconnect(&mut self, now: &Now) {
+    pub fn disconnect(&mut self, now: &Now)
+        ensures clients { self.new.clients ≡ self.old.clients }
+        ensures gone { self.new.server ≡ None }
+    {
         if let Some(connection) = &mut self.server {
             connection.flush(now.ms);
         }

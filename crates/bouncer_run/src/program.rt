@@ -166,14 +166,15 @@ impl<R: System, U: Upstream + Send + 'static> Started<R, U> {
             watch,
             reader,
         } = self;
-        let (mut edge, mut driver, mut telling, mut watch) = (edge, driver, telling, watch);
+        let (mut edge, mut running, mut driver) = (edge, running, driver);
+        let (mut telling, mut watch) = (telling, watch);
         let ran = run_loop(
             rt,
             rt.alloc(),
             TICK,
             &mut driver,
             &mut edge.sockets,
-            &running,
+            &mut running,
             &edge.messages,
             &mut watch,
             &mut telling,

@@ -1,5 +1,5 @@
 //! The nodes of a bouncer, as the program starts them and as the loop speaks to them.
-ghost use Rattle.std.specs.Prelude.{◌≡◌, ◌≤◌, IfErr, IfOk, IsTrue, length};
+ghost use Rattle.std.specs.Prelude.{◌≡◌, IfErr, IfOk, length};
 ghost use Rattle.bouncer_run.specs.Faults.{IsOrMemory};
 ghost use Rattle.bouncer_run.specs.Groups.{recording_by};
 ghost use Rattle.bouncer_run.specs.declared.run_fault.RunFault.TheVariants.{Store};
@@ -80,9 +80,12 @@ impl<R: System, U: Upstream + Send + 'static> Running<R, U> {
 }
 
 impl<R: System, U: Upstream> Nodes for Running<R, U> {
-    fn tell<W: Wait>(&self, rt: &W, node: NodeId, note: TowerNote) -> bool
-        ensures { IsTrue result → node ≤ self.now.nodes.ether.size }
-    {
+    ghost use Rattle.std.specs.Prelude.{◌≡◌, ◌≤◌};
+
+    // what lies in a channel, no clause says
+    ghost has_told = { λ old node _ new. (new ≡ old) × (node ≤ old.nodes.ether.size) };
+
+    fn tell<W: Wait>(&mut self, rt: &W, node: NodeId, note: TowerNote) -> bool {
         match self.nodes.node(node) {
             Ok(told) => told.submit(rt, note).is_ok(),
             Err(_) => false,

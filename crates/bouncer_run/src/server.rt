@@ -1,4 +1,6 @@
 //! What happens at the sockets, told to the driver.
+ghost use Rattle.std.specs.Prelude.{◌≡◌, None};
+
 use crate::connection::{Got, Reading};
 use crate::event_loop::LoopFault;
 use crate::pieces::{PIECE, PIECES};
@@ -93,7 +95,10 @@ impl Sockets {
         now: &Now,
         driver: &mut Driver,
         why: Ending,
-    ) -> Result<(), LoopFault> {
+    ) -> Result<(), LoopFault>
+        ensures clients { self.new.clients ≡ self.old.clients }
+        ensures gone { self.new.server ≡ None }
+    {
         self.server = None;
         driver.close(now, why)?;
         Ok(())

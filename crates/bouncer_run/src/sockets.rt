@@ -1,4 +1,7 @@
 //! All sockets.
+ghost use Rattle.std.specs.Prelude.{◌≡◌, [], Some, OnOk};
+ghost use Rattle.bouncer_run.specs.Sendings.{Awaits};
+
 use crate::connection::Connection;
 use crate::edge_news::EdgeNews;
 use crate::guest::Guest;
@@ -13,6 +16,7 @@ use std::alloc::{AllocError, Global};
 use std::collections::BTreeMap;
 use std::io;
 use std::net::{Net, SocketAddr};
+use wire_bytes::Origin;
 
 /// The token of what wakes the loop.
 pub const WAKER: usize = 0;
@@ -56,6 +60,8 @@ pub struct Sockets {
     pub leaving: Leaving,
     /// How often it was told of places that were taken.
     pub crowding: Ration,
+    /// The client that attached last, until an operator is told by which name.
+    pub newcomer: Option<Origin>,
     /// What an operator is still to be told.
     news: Vec<EdgeNews>,
 }
@@ -74,6 +80,7 @@ impl Sockets {
             queue: Queue::new(alloc),
             leaving: Leaving::new(alloc),
             crowding: Ration::new(),
+            newcomer: None,
             news: Vec::new(alloc),
         })
     }
@@ -136,7 +143,10 @@ impl Sockets {
     }
 
     /// The server is connected to.
-    pub fn connect(&mut self, net: &impl Net) -> io::Result<()> {
+    pub fn connect(&mut self, net: &impl Net) -> io::Result<()>
+        ensures clients { self.new.clients ≡ self.old.clients }
+        ensures server { OnOk result (Awaits (Some []) self.new.server) }
+    {
         let mut stream = TcpStream::connect(net, self.server_address)?;
         let _ = stream.set_nodelay(true);
         self.poll.registry().register(
@@ -150,7 +160,9 @@ impl Sockets {
     }
 
     /// An operator is to be told.
-    pub fn tell(&mut self, news: EdgeNews) -> Result<(), AllocError> {
+    pub fn tell(&mut self, news: EdgeNews) -> Result<(), AllocError>
+        ensures { self.new ≡ record self.old { news = self.new.news } }
+    {
         self.news.push(news)?;
         Ok(())
     }

@@ -1,0 +1,106 @@
+//! The driver's orders are carried out.
+ghost use Rattle.std.specs.Prelude.{◌≡◌, ◌∷◌, [], OnOk};
+ghost use Rattle.bouncer_run.specs.Deliveries.{AreDone};
+ghost use Rattle.bouncer_run.specs.Sendings.{IsSent};
+ghost use Rattle.bouncer_run.specs.Submissions.{AreTold, note_in, notes_in};
+
+use crate::event_loop::{LoopFault, Nodes};
+use crate::loop_news::{tell_name, tell_news};
+use crate::operator::Operator;
+use crate::sockets::Sockets;
+use driver::{Driver, Now, Order, TowerNote};
+use raft_log::NodeId;
+use std::net::Net;
+use std::sync::Wait;
+
+/// Does what the driver orders, until it orders nothing more; then what waits at the sockets is
+/// written.
+pub fn carry_out_all<R: Net + Wait, N: Nodes, O: Operator>(
+    rt: &R,
+    now: &Now,
+    driver: &mut Driver,
+    sockets: &mut Sockets,
+    nodes: &mut N,
+    operator: &mut O,
+) -> Result<(), LoopFault> {
+    for _ in 0..u64::MAX {
+        let orders = driver.orders();
+        if orders.is_empty() && !sockets.flush_all(now, driver)? {
+            break;
+        }
+        carry_out_each(rt, now, driver, sockets, nodes, operator, orders)?;
+    }
+    Ok(())
+}
+
+/// Does these orders, in turn.
+fn carry_out_each<R: Net + Wait, N: Nodes, O: Operator>(
+    rt: &R,
+    now: &Now,
+    driver: &mut Driver,
+    sockets: &mut Sockets,
+    nodes: &mut N,
+    operator: &mut O,
+    orders: Vec<Order>,
+) -> Result<(), LoopFault>
+    ensures clients { OnOk result (AreDone orders.items sockets.old sockets.new) }
+    ensures server { OnOk result (IsSent orders.items sockets.old.server sockets.new.server) }
+    ensures notes { OnOk result (AreTold N.has_told (notes_in orders.items) nodes.old nodes.new) }
+{
+    for order in orders {
+        carry_out(rt, now, driver, sockets, nodes, operator, order)?;
+    }
+    Ok(())
+}
+
+/// Does what the driver orders.
+fn carry_out<R: Net + Wait, N: Nodes, O: Operator>(
+    rt: &R,
+    now: &Now,
+    driver: &mut Driver,
+    sockets: &mut Sockets,
+    nodes: &mut N,
+    operator: &mut O,
+    order: Order,
+) -> Result<(), LoopFault>
+    ensures clients { OnOk result (AreDone (order ∷ []) sockets.old sockets.new) }
+    ensures server { OnOk result (IsSent (order ∷ []) sockets.old.server sockets.new.server) }
+    ensures notes { OnOk result (AreTold N.has_told (note_in order) nodes.old nodes.new) }
+{
+    match order {
+        Order::Submit(node, note) => submit(rt, now, sockets, nodes, operator, node, note),
+        Order::Write(number, bytes) => sockets.write(now, driver, number, bytes.as_slice()),
+        Order::Close(number) => {
+            sockets.close(now, number);
+            Ok(())
+        }
+        Order::Connect => sockets.reach(rt, now, driver),
+        Order::Send(bytes) => sockets.send(now, driver, bytes.as_slice()),
+        Order::Disconnect => {
+            sockets.disconnect(now);
+            Ok(())
+        }
+        Order::Log(news) => tell_news(now, driver, sockets, operator, news),
+    }
+}
+
+/// A node's worker is told this, and an operator by which name a client attached, where it asks for that.
+fn submit<R: Wait, N: Nodes, O: Operator>(
+    rt: &R,
+    now: &Now,
+    sockets: &mut Sockets,
+    nodes: &mut N,
+    operator: &mut O,
+    node: NodeId,
+    note: TowerNote,
+) -> Result<(), LoopFault>
+    ensures told { OnOk result (N.has_told nodes.old node note nodes.new) }
+    ensures clients { sockets.new.clients ≡ sockets.old.clients }
+    ensures server { sockets.new.server ≡ sockets.old.server }
+{
+    tell_name(now, sockets, operator, &note)?;
+    if !nodes.tell(rt, node, note) {
+        return Err(LoopFault::Memory);
+    }
+    Ok(())
+}
