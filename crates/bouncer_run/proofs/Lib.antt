@@ -6,6 +6,7 @@ pub mod SomeFolders
 pub mod Longest
 pub mod Marks
 pub mod Movements
+pub mod Ordered
 pub mod Over
 pub mod PasswordTexts
 pub mod Places

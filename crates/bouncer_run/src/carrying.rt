@@ -24,13 +24,34 @@ pub fn carry_out_all<R: Net + Wait, N: Nodes, O: Operator>(
     operator: &mut O,
 ) -> Result<(), LoopFault> {
     for _ in 0..u64::MAX {
-        let orders = driver.orders();
-        if orders.is_empty() && !sockets.flush_all(now, driver)? {
+        if !carry_out_ordered(rt, now, driver, sockets, nodes, operator)?
+            && !sockets.flush_all(now, driver)?
+        {
             break;
         }
-        carry_out_each(rt, now, driver, sockets, nodes, operator, orders)?;
     }
     Ok(())
+}
+
+/// Does what the driver has ordered, in turn. Whether that was anything.
+fn carry_out_ordered<R: Net + Wait, N: Nodes, O: Operator>(
+    rt: &R,
+    now: &Now,
+    driver: &mut Driver,
+    sockets: &mut Sockets,
+    nodes: &mut N,
+    operator: &mut O,
+) -> Result<bool, LoopFault>
+    ensures clients { OnOk result (AreDone driver.old.orders.items sockets.old sockets.new) }
+    ensures server { OnOk result
+        (IsSent driver.old.orders.items sockets.old.server sockets.new.server) }
+    ensures notes { OnOk result
+        (AreTold N.has_told (notes_in driver.old.orders.items) nodes.old nodes.new) }
+{
+    let orders = driver.orders();
+    let any = !orders.is_empty();
+    carry_out_each(rt, now, driver, sockets, nodes, operator, orders)?;
+    Ok(any)
 }
 
 /// Does these orders, in turn.
