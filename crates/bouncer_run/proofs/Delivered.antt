@@ -1,4 +1,4 @@
--- What becomes of a client by orders, one behind the other.
+-- What orders do to a client, one after the other.
 use Rattle.std.proofs.Common.{◌≡◌, ◌≤◌, ℕ, ◌+◌, ◌==◌, ◌||◌, max, Bool, true, false, nat_le, cond, List, [], ◌∷◌, ◌++◌, length, refl, sym, ap, ◌∙◌, subst, append_assoc, Option, Some, None, arith}
 use Rattle.std.proofs.lemmas.Bool.{eq-eqb, eqb-true}
 use Rattle.std.proofs.lemmas.List.{append-nil, length-append}
@@ -15,7 +15,7 @@ use Rattle.bouncer_run.specs.declared.sockets.Sockets.{Sockets}
 use Rattle.bouncer_run.specs.Connections.{gathered, is_ending, may_wait}
 use Rattle.bouncer_run.specs.Deliveries.{AreDone, AreOthersSame, HasWritten, IsWritten, bytes_for, bytes_in, closes, guest_at, with_waiting}
 
--- behind bytes that may wait more are too many, or too many they are at once
+-- after bytes that may wait, more are too many, or they are too many at once
 full_behind : (m a b c : ℕ) → nat_le (a + b) m ≡ false → nat_le (a + (b + c)) m ≡ false
 full_behind m a b c h = grind arith
 
@@ -25,17 +25,17 @@ full_both m a b c h = grind arith
 few_both : (m a b c : ℕ) → b ≤ max m a → c ≤ max m b → c ≤ max m a
 few_both m a b c h g = grind arith
 
--- the bytes of the second part count where the first does not close
+-- the bytes of the second part count if the first does not close
 abbrev pub behind : Bool → List ℕ → List ℕ
 behind true bytes = []
 behind false bytes = bytes
 
--- too much would wait already by the first part
+-- too much would wait already after the first part
 falls_first : (p : Phase) (w first more : List ℕ) → may_wait p w first ≡ false → may_wait p w (first ++ more) ≡ false
 falls_first Open w first more h = ap (λ (n : ℕ). nat_le (length w + n) MOST_UNSENT) (length-append first more) ∙ full_behind MOST_UNSENT (length w) (length first) (length more) h
 falls_first (Ending since) w first more h = h
 
--- or by the second
+-- or after the second
 falls_second : (p q : Phase) (closed : Bool) (w v first more : List ℕ) → is_ending q ≡ (is_ending p || closed) → v ≡ gathered p w first → may_wait q v more ≡ false → may_wait p w (first ++ behind closed more) ≡ false
 falls_second p (Ending since) closed w v first more e g h = absurd (cc h)
 falls_second (Ending since) Open closed w v first more e g h = absurd (cc e)
@@ -44,7 +44,7 @@ falls_second Open Open false w v first more e g h =
     ap (λ (n : ℕ). nat_le (length w + n) MOST_UNSENT) (length-append first more)
     ∙ full_both MOST_UNSENT (length w) (length first) (length more) (ap (λ (n : ℕ). nat_le (n + length more) MOST_UNSENT) (sym (length-append w first) ∙ ap (λ (l : List ℕ). length l) (sym g)) ∙ h)
 
--- what waits by both parts
+-- what waits after both parts
 waits_both : (p q : Phase) (closed : Bool) (w v u first more : List ℕ) → is_ending q ≡ (is_ending p || closed) → v ≡ gathered p w first → u ≡ gathered q v more → u ≡ gathered p w (first ++ behind closed more)
 waits_both (Ending since) Open closed w v u first more e g h = absurd (cc e)
 waits_both (Ending since) (Ending at) closed w v u first more e g h = h ∙ g
@@ -91,7 +91,7 @@ closed_both : (closed over : Bool) → ((closed || false) || over) ≡ (closed |
 closed_both true over = refl
 closed_both false over = refl
 
--- what becomes of a client by one order, and then by more
+-- what one order does to a client, and then more
 one_more : (number : ℕ) (order : Order) (orders : List Order) (a b c : Option Guest) → HasWritten (bytes_for number (order ∷ [])) (list_any (closes number) (order ∷ [])) a b → HasWritten (bytes_for number orders) (list_any (closes number) orders) b c → HasWritten (bytes_for number (order ∷ orders)) (list_any (closes number) (order ∷ orders)) a c
 one_more number order orders a b c g h =
     let closed : Bool = closes number order in
@@ -119,7 +119,7 @@ same (Some guest) = record {
 pub none_done : (orders : List Order) (new : Sockets) → orders ≡ [] → AreDone orders new new
 none_done orders new none = subst (λ (l : List Order). AreDone l new new) (sym none) (λ number. same (guest_at new number))
 
--- of an order to write, what its client is written, and what others are
+-- for an order to write: what its client is written, and what others are
 write_by : (here : Bool) (bytes : List ℕ) (a b : Option Guest) → (here ≡ true → HasWritten bytes false a b) → (here ≡ false → b ≡ a) → HasWritten (cond here bytes [] ++ []) false a b
 write_by true bytes a b client others = subst (λ (l : List ℕ). HasWritten l false a b) (sym (append-nil bytes)) (client refl)
 write_by false bytes a b client others = subst (λ (g : Option Guest). HasWritten [] false a g) (sym (others refl)) (same a)

@@ -1,4 +1,4 @@
--- What holds of entries up to a place, or behind one.
+-- What holds of entries up to a place, or after one.
 use Rattle.std.proofs.Common.{◌≡◌, ℕ, ◌≤◌, ◌<◌, ◌+◌, suc, add-one, Some, List, [], ◌∷◌, length, take, drop, get_or, sym, subst, drop-cons}
 use Rattle.std.proofs.Math.Seq.{take-suc}
 use Rattle.std.proofs.lemmas.List.{drop_all, take_all}
@@ -26,7 +26,7 @@ module _ {X : Type 0} (P : X → Type 0) (xs : List X) where
       subst (λ (ys : List X). All P ys) (sym (drop-cons xs i x (inside i k x at is)))
       (All-cons P (get_or xs i x) (drop (suc i) xs) (subst P (sym (there i k x at is)) one) (subst (λ (n : ℕ). All P (drop n xs)) at all))
 
-  -- none is behind the end
+  -- none is after the end
   pub none_behind : (k : ℕ) → length xs ≤ k → All P (drop k xs)
   none_behind k h = subst (λ (ys : List X). All P ys) (sym (drop_all k xs h)) (All-nil P)
 

@@ -19,7 +19,7 @@ module _ {A : Type 0} where
   longest_of_two chosen longer first next others h k most =
       (le_on (length first) (length longer) (length chosen) h most.0, (le_on (length next) (length longer) (length chosen) k most.0, most.1))
 
-  -- and one of them
+  -- and is one of them
   pub one_of_two : (chosen longer first next : List A) (others : List (List A)) → (longer ≡ first) ⊎ (longer ≡ next)
       → IsOneOf chosen (longer ∷ others) → IsOneOf chosen (first ∷ next ∷ others)
   one_of_two chosen longer first next others (inl h) (inl is) = inl (subst (λ (l : List A). chosen ≡ l) h is)

@@ -9,7 +9,7 @@ use Rattle.driver.specs.declared.level.TheConstants.{FULL}
 use Rattle.bouncer_run.specs.declared.log_rate.Mark.{Mark}
 use Rattle.bouncer_run.specs.declared.log_rate.TheConstants.{DAY, HOUR}
 
--- what is left of a log, so many seconds long
+-- what is left of a log, this many seconds long
 pub few_seconds : (left passed : ℕ) → left ≤ 999000 → passed ≤ 250000000000 → left * passed ≤ 249750000000000000
 few_seconds left passed h k = mul-le left passed 999000 250000000000 h k
 
@@ -18,7 +18,7 @@ past_to_day now seconds at [] past = tt
 past_to_day now seconds at (mark ∷ earlier) past =
     cond_both (is_older DAY at mark) (mark ∷ []) (mark ∷ up_to_day at earlier) (IsPast now seconds) (λ old. past) (λ new. past)
 
--- marks up to the first that is a day old are apart, where all are
+-- marks up to the first that is a day old are apart, if all are
 apart_to_day : (at : ℕ) (marks : List Mark) → AreApart marks → AreApart (up_to_day at marks)
 apart_to_day at [] apart = tt
 apart_to_day at (mark ∷ earlier) apart =
@@ -55,7 +55,7 @@ count n h = omega (arith, h)
 pub one : (new : Mark) → AreMarks (new ∷ [])
 one new = record { apart = (tt, tt); few = omega arith }
 
--- a new mark, where the newest is an hour old
+-- a new mark, if the newest is an hour old
 pub one_more : (new : Mark) (marks : List Mark) → AreMarks marks → IsPast new.at HOUR marks → AreMarks (new ∷ up_to_day new.at marks)
 one_more new marks are past = record {
   apart = (past_to_day new.at HOUR new.at marks past, apart_to_day new.at marks are.apart);
@@ -123,6 +123,6 @@ leaves_by at entries (Some mark) r is =
     })
     (λ h. tt))
 
--- so many days leave room, and one more does not
+-- this many days leave room, and one more does not
 pub leaves_room : (at entries : ℕ) (marks : List Mark) (r : Option ℕ) → r ≡ days_left marks at entries → IfSome r (λ days. IfSome (oldest marks) (λ mark. LeavesRoom at entries mark days))
 leaves_room at entries marks r is = leaves_by at entries (oldest marks) r is

@@ -8,7 +8,7 @@ nothing_given : (before : Option (List ℕ)) → Appends before before []
 nothing_given None = tt
 nothing_given (Some xs) = sym (append-nil xs)
 
--- where nothing is taken, nothing leaves
+-- if nothing is taken, nothing leaves
 pub stays : (waiting : List ℕ) (before : Option (List ℕ)) → Moves waiting waiting before before
 stays waiting before = record { taken = []; front = refl; given = nothing_given before }
 

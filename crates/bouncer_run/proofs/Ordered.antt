@@ -1,4 +1,4 @@
--- What becomes of orders goes by what is done by them, a byte at a time.
+-- What is done with orders depends on what they do, a byte at a time.
 use Rattle.std.proofs.Common.{◌≡◌, ◌∙◌, ◌==◌, ◌||◌, ℕ, Bool, true, false, cond, List, [], ◌∷◌, ◌++◌, map, refl, ap, subst, sym, Option}
 use Rattle.std.specs.List.{list_any}
 use Rattle.mio.specs.declared.net.stream.TcpStream.{TcpStream}
@@ -118,7 +118,7 @@ notes_by_all : (orders : List Order) → notes_by (deeds orders) ≡ notes_in or
 notes_by_all [] = refl
 notes_by_all (order ∷ orders) = notes_by_order order (deeds orders) ∙ ap (λ (l : List (ℕ × TowerNote)). note_in order ++ l) (notes_by_all orders)
 
--- orders by which the same is done
+-- orders that do the same
 pub same_done : (given ordered : List Order) (old new : Sockets) → deeds given ≡ deeds ordered → AreDone given old new → AreDone ordered old new
 same_done given ordered old new same done number =
     subst (λ (l : List ℕ). HasWritten l (list_any (closes number) ordered) (guest_at old number) (guest_at new number))

@@ -1,4 +1,4 @@
--- What the server is sent by no orders.
+-- What no orders send to the server.
 use Rattle.std.proofs.Common.{◌≡◌, List, [], Option, subst, sym}
 use Rattle.mio.specs.declared.net.stream.TcpStream.{TcpStream}
 use Rattle.driver.specs.declared.order.Order.{Order}

@@ -12,7 +12,7 @@ use Rattle.bouncer_config.specs.declared.config.Config.{Config}
 some_by : (nodes folders : ℕ) → IsGroupSize nodes → serves (Some nodes) folders ≡ true → 1 ≤ folders
 some_by nodes folders group s = grind (arith, nat_tests, group, s)
 
--- where they are placed by the folder of a file, there are as many
+-- if they are relative to the folder of a file, there are as many
 pub some_folders : (file text : List ℕ) (said is : Config) → Says text said → IsPlaced file said is → 1 ≤ length is.store.items
 some_folders file text said is says moved =
     let same : length is.store.items ≡ length said.store.items =

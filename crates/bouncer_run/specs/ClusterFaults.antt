@@ -1,4 +1,4 @@
--- Why the nodes do not start, told as the program tells it.
+-- Why the nodes do not start, as the program reports it.
 use Rattle.node_threads.specs.declared.cluster_fault.ClusterFault.{ClusterFault}
 use Rattle.node_threads.specs.declared.cluster_fault.ClusterFault.TheVariants as cluster
 use Rattle.raft_node.specs.declared.node_fault.Cause.TheVariants as cause
@@ -7,13 +7,13 @@ use Rattle.raft_node.specs.declared.node_fault.NodeFault.TheVariants.{Down, Refu
 use Rattle.bouncer_run.specs.declared.run_fault.RunFault.{RunFault}
 use Rattle.bouncer_run.specs.declared.run_fault.RunFault.TheVariants.{Memory, Store}
 
--- a node that does not start: for want of memory, or for its store
+-- why a node does not start: out of memory, or its store
 abbrev pub fault_of_node : NodeFault → RunFault
 fault_of_node (Down cause.Memory) = Memory
 fault_of_node (Down cause.Store) = Store
 fault_of_node (Refused refusal) = Store
 
--- nodes that do not start: for want of memory, or else for their stores
+-- why nodes do not start: out of memory, or else their stores
 abbrev pub fault_by : ClusterFault → RunFault
 fault_by cluster.Memory = Memory
 fault_by (cluster.NoNode n) = Store

@@ -1,4 +1,4 @@
--- What was read of a configuration.
+-- What was read from a configuration.
 use Rattle.std.specs.Prelude.{◌≡◌, ℕ, List, Option, IfSome}
 use Rattle.bouncer_config.specs.Placing.{IsPlaced}
 use Rattle.bouncer_config.specs.Reads.{IsFault, Says}
@@ -19,29 +19,29 @@ pub record IsConfigOf (remaining : Option (List ℕ)) (c : Config) : Type 0 wher
   pub known : IfSome remaining (λ bytes. text ≡ bytes)
   pub says : Says text c
 
--- some text says this configuration, whose paths go by the folder of this file
+-- some text says this configuration, and its paths are relative to the folder of this file
 abbrev pub IsSaidIn : List ℕ → Config → Type 0
 IsSaidIn file c = (text : List ℕ) × (said : Config) × Says text said × IsPlaced file said c
 
--- the bytes of a reader, as far as they are known, are a text with which this is wrong
+-- the bytes of a reader, as far as they are known, are a text with this fault
 pub record IsRefusedText (remaining : Option (List ℕ)) (problem : Problem) : Type 0 where
   pub text : List ℕ
   pub known : IfSome remaining (λ bytes. text ≡ bytes)
   pub wrong : IsFault text problem
 
--- why no configuration was read of a reader
+-- why no configuration was read from a reader
 abbrev pub IsUnread : Option (List ℕ) → Unread → Type 0
 IsUnread remaining (Unreadable input.InputTooLong) = IsTooLong remaining
 IsUnread remaining (Unreadable input.Read) = Unit {0}
 IsUnread remaining (Unreadable input.Memory) = Unit {0}
 IsUnread remaining (Refused f) = IsRefusedText remaining f.problem
 
--- what is wrong with a text, as the program tells it
+-- what is wrong with a text, as the program reports it
 abbrev pub fault_of_problem : Problem → RunFault
 fault_of_problem problem.Memory = fault.Memory
 fault_of_problem _ = fault.Config
 
--- why no configuration was read, as the program tells it
+-- why no configuration was read, as the program reports it
 abbrev pub fault_of_unread : Unread → RunFault
 fault_of_unread (Unreadable f) = fault_of_reading f
 fault_of_unread (Refused f) = fault_of_problem f.problem

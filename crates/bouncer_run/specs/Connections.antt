@@ -1,4 +1,4 @@
--- What is read of a connection, and what waits to be written to it.
+-- What is read from a connection, and what waits to be written to it.
 use Rattle.std.specs.Prelude.{ℕ, ◌+◌, ◌-◌, nat_le, Bool, true, false, List, length, ◌++◌}
 use Rattle.bouncer_run.specs.declared.connection.TheConstants.{LONGEST_END, MOST_UNSENT}
 use Rattle.bouncer_run.specs.declared.connection.Got.{Got}
@@ -18,7 +18,8 @@ abbrev pub is_ending : Phase → Bool
 is_ending Open = false
 is_ending (Ending since) = true
 
--- what waits once bytes are to be written: they wait behind the others, but for a connection that is to be closed
+-- what waits after bytes are to be written: they come after the others, unless the connection is to
+-- be closed
 abbrev pub gathered : Phase → List ℕ → List ℕ → List ℕ
 gathered Open waiting bytes = waiting ++ bytes
 gathered (Ending since) waiting bytes = waiting
@@ -28,7 +29,7 @@ abbrev pub may_wait : Phase → List ℕ → List ℕ → Bool
 may_wait Open waiting bytes = nat_le (length waiting + length bytes) MOST_UNSENT
 may_wait (Ending since) waiting bytes = true
 
--- a connection is to be closed, and took no byte for so long
+-- a connection is to be closed, and has taken no byte for this long
 abbrev pub is_late : Phase → ℕ → Bool
 is_late Open now = false
 is_late (Ending since) now = nat_le LONGEST_END (now - since)

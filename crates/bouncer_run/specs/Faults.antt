@@ -1,4 +1,4 @@
--- What faults of lower calls are to the program.
+-- What faults of lower calls mean to the program.
 use Rattle.std.specs.Prelude.{◌≡◌, ◌≢◌, ◌⊎◌}
 use Rattle.std.specs.declared.io.ErrorKind.{ErrorKind}
 use Rattle.std.specs.declared.io.ErrorKind.TheVariants.{OutOfMemory}
@@ -14,28 +14,28 @@ use Rattle.whole_input.specs.declared.read_fault.ReadFault.TheVariants as input
 use Rattle.bouncer_run.specs.declared.run_fault.RunFault.{RunFault}
 use Rattle.bouncer_run.specs.declared.run_fault.RunFault.TheVariants.{InputTooLong, Memory, Read, Socket, Store}
 
--- this fault, or want of memory
+-- this fault, or out of memory
 abbrev pub IsOrMemory : RunFault → RunFault → Type 0
 IsOrMemory fault f = (f ≡ fault) ⊎ (f ≡ Memory)
 
--- an error of the system is want of memory where it is of that kind, and else that fault
+-- an error of the system means out of memory if it is of that kind, and else that fault
 pub record IsFaultOfError (kind : ErrorKind) (otherwise fault : RunFault) : Type 0 where
   pub memory : kind ≡ OutOfMemory → fault ≡ Memory
   pub other : kind ≢ OutOfMemory → fault ≡ otherwise
 
--- an input that is not read: it is too long, it fails, or memory is wanting
+-- an input that is not read: it is too long, it fails, or there is not enough memory
 abbrev pub fault_of_reading : ReadFault → RunFault
 fault_of_reading input.InputTooLong = InputTooLong
 fault_of_reading input.Read = Read
 fault_of_reading input.Memory = Memory
 
--- a loop that ends by a fault: of a store, of a socket, or for want of memory
+-- a loop that ends by a fault: of a store, of a socket, or out of memory
 abbrev pub fault_of_loop : LoopFault → RunFault
 fault_of_loop ended.Store = Store
 fault_of_loop ended.Socket = Socket
 fault_of_loop ended.Memory = Memory
 
--- a store that fails: for want of memory, or for what lies in it
+-- a store that fails: out of memory, or because of what is in it
 abbrev pub fault_of_store : StoreFault → RunFault
 fault_of_store store.Device = Store
 fault_of_store store.NotAStore = Store
@@ -43,7 +43,7 @@ fault_of_store store.Version = Store
 fault_of_store (store.Damaged place) = Store
 fault_of_store store.Memory = Memory
 
--- a journal that is not opened: want of memory is told as that, also where the system tells it
+-- a journal that is not opened: out of memory is reported as that, also if the system reports it
 abbrev pub IsFaultOfOpening : OpenFault → RunFault → Type 0
 IsFaultOfOpening opening.InUse f = f ≡ Store
 IsFaultOfOpening opening.NotAFile f = f ≡ Store

@@ -1,4 +1,4 @@
--- What an operator is told of clients that go.
+-- What is logged about clients that go.
 use Rattle.std.specs.Prelude.{ℕ, zero, suc, Bool, true, false, Option, Some, None}
 use Rattle.std.specs.declared.net.socket_addr.SocketAddr.{SocketAddr}
 use Rattle.bouncer_run.specs.declared.edge_news.EdgeNews.{EdgeNews}
@@ -8,7 +8,8 @@ use Rattle.bouncer_run.specs.declared.guest.Hold.TheVariants.{Closing, Served, U
 use Rattle.bouncer_run.specs.declared.guest.Stage.{Stage}
 use Rattle.bouncer_run.specs.declared.guest.Stage.TheVariants.{Arriving, Refused, Registered}
 
--- of one that did not register it is told so, but where its password was wrong, of which it was told before
+-- a client that did not register is logged as such, unless its password was wrong, which was logged
+-- before
 abbrev pub parting : Stage → ℕ → ℕ → SocketAddr → Option EdgeNews
 parting Arriving node number address = Some (news.Unregistered node number address)
 parting Refused node number address = None
@@ -20,7 +21,8 @@ is_registered Arriving = false
 is_registered Refused = false
 is_registered Registered = true
 
--- the hold on its place of a client that registered or not, whose connection is to be closed or not, and for which so many bytes wait
+-- the hold on its place of a client that registered or not, whose connection is to be closed or
+-- not, and for which this many bytes wait
 abbrev pub hold : Bool → Bool → ℕ → Hold
 hold false ending waiting = Unregistered
 hold true false waiting = Served

@@ -13,16 +13,16 @@ use Rattle.bouncer_run.specs.declared.store_watch.TheConstants.{LOOK_EVERY}
 
 -- What a connection is given.
 pub record LimitsOfConnections : Type 0 where
-  -- so many clients at once, so many of whom are taken before the others are looked at
+  -- how many clients at once, and how many of them are taken before the others are looked at
   pub clients : MOST_CLIENTS ≡ 256
   pub taken : TAKEN ≡ 64
   -- the bytes of a piece, and the pieces that are read before the others are looked at
   pub piece : PIECE ≡ 512
   pub pieces : PIECES ≡ 16
-  -- the bytes that wait to be written, and how long one that is to be closed may take none
+  -- the bytes that wait to be written, and how long a connection that is to be closed may take none
   pub unsent : MOST_UNSENT ≡ 4194304
   pub longest_end : LONGEST_END ≡ 60000
-  -- how long, and how many of those that are closed are held
+  -- how long closed connections are held, and how many
   pub held : HELD ≡ 1000
   pub most_held : MOST_HELD ≡ 64
   -- no two sockets have one token
@@ -34,10 +34,11 @@ pub record LimitsOfTheLoop : Type 0 where
   -- how often it looks at the clock, and at the paths of the store
   pub tick : TICK ≡ 20
   pub look_every : LOOK_EVERY ≡ 500
-  -- the sockets that it is told of at once, and the messages that it hears before it looks at sockets again
+  -- how many sockets are reported at once, and how many messages are heard before sockets are
+  -- looked at again
   pub events : EVENTS ≡ 256
   pub messages : MOST_MESSAGES ≡ 10000
-  -- how often it tells of one kind in how long
+  -- how often one kind of news is logged in how long
   pub told : MOST_TOLD ≡ 10
   pub minute : MINUTE ≡ 60000
   -- how long clients may stay at the end

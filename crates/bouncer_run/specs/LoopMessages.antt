@@ -1,4 +1,4 @@
--- What the driver is told by a message of another thread.
+-- What the driver gets from a message of another thread.
 use Rattle.std.specs.Prelude.{◌≡◌, Bool, true, false, is_some}
 use Rattle.driver.specs.declared.driver.Driver.{Driver}
 use Rattle.driver.specs.declared.order.Now.{Now}
@@ -13,7 +13,8 @@ is_end (Report report) = false
 is_end (Hand node line) = false
 is_end End = true
 
--- a report is heard, a line that a node handed out waits to go to the server, and nothing comes of the end
+-- a report is heard, a line that a node handed out waits to go to the server, and the end does
+-- nothing
 abbrev pub IsHeard : Now → LoopMessage → Driver → Driver → Type 0
 IsHeard now (Report r) old new = Hears now.ms now.at r.node r.status r.effects.items r.progress (is_some r.fault) old new
 IsHeard now (Hand node line) old new = Hands node line old new

@@ -14,24 +14,25 @@ use Rattle.bouncer_run.specs.declared.run_fault.RunFault.TheVariants as fault
 abbrev pub Serves : {J : Type 0} → (J → Bool) → Option J → Type 0
 Serves broken journal = IfSome journal (λ j. broken j ≡ false)
 
--- a store that is not as it is to be: for want of memory, or as was told
+-- a store that is not as it must be: out of memory, or as was reported
 abbrev pub unopened_by : RunFault → Unopened
 unopened_by fault.Memory = Memory
 unopened_by _ = Told
 
--- the last run of a node of which the logs of these journals tell, as far as they are open
+-- the last run of a node that the logs of these journals show, as far as they are open
 abbrev pub run_of_group : List (Option (Saved TowerBody)) → ℕ → ℕ
 run_of_group owns node = run_told node (those_there owns)
 
 module _ {J L : Type 0} (run_of : L → ℕ) where
-  -- a node starts over its journal, if that is open; else over what opens it late, if that is of this run or of a later one
+  -- a node starts over its journal, if that is open; else over what opens it late, if that is of
+  -- this run or a later one
   abbrev pub IsOver : ℕ → Option J → PartStore J L → Type 0
   IsOver run (Some journal) (Ready store) = store ≡ journal
   IsOver run (Some journal) (Late late) = ⊥
   IsOver run None (Ready store) = ⊥
   IsOver run None (Late late) = run_of late ≡ run
 
-  -- so each node from this one on
+  -- and so for each node from this one on
   abbrev pub AreOver : (ℕ → ℕ) → ℕ → List (Option J) → List (PartStore J L) → Type 0
   AreOver run node [] [] = Unit {0}
   AreOver run node [] (s ∷ stores) = ⊥

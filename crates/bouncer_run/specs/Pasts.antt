@@ -1,4 +1,4 @@
--- The lines that a past stands for.
+-- The lines in a past.
 use Rattle.std.specs.Prelude.{List, [], ◌∷◌, ◌++◌}
 use Rattle.node_cells.specs.Upstreams.{Numbered}
 use Rattle.bouncer_run.specs.declared.past.Past.{Past, Nothing, Told'}

@@ -7,11 +7,11 @@ use Rattle.driver.specs.declared.news.News.TheVariants.{LogFills}
 use Rattle.bouncer_run.specs.declared.log_rate.Mark.{Mark}
 use Rattle.bouncer_run.specs.declared.log_rate.TheConstants.{DAY, HOUR, MOST_MARKS}
 
--- so many seconds have passed since a mark, at a moment
+-- this many seconds have passed since a mark, at a moment
 abbrev pub is_older : ℕ → ℕ → Mark → Bool
 is_older seconds at mark = nat_le (mark.at + seconds) at
 
--- of these marks those up to the first that is a day old at a moment
+-- these marks up to the first that is a day old at a moment
 abbrev pub up_to_day : ℕ → List Mark → List Mark
 up_to_day at [] = []
 up_to_day at (mark ∷ earlier) = if is_older DAY at mark then mark ∷ [] else mark ∷ up_to_day at earlier
@@ -20,14 +20,14 @@ up_to_day at (mark ∷ earlier) = if is_older DAY at mark then mark ∷ [] else 
 abbrev pub is_undone : Mark → Mark → Bool
 is_undone mark new = nat_lt new.at mark.at || nat_lt new.entries mark.entries
 
--- the marks with a new one, where the newest is an hour old: none is kept that is older than the first that is a day old; they begin anew where
--- the clock went back, or the log became shorter
+-- the marks with a new one, if the newest is an hour old: none is kept that is older than the first
+-- that is a day old; they begin anew if the clock went back, or the log became shorter
 abbrev pub noted : Mark → List Mark → List Mark
 noted new [] = new ∷ []
 noted new (newest ∷ earlier) =
     if is_undone newest new then new ∷ [] else (if is_older HOUR new.at newest then new ∷ up_to_day new.at (newest ∷ earlier) else newest ∷ earlier)
 
--- the newest of these marks is so many seconds old at a moment
+-- the newest of these marks is this many seconds old at a moment
 abbrev pub IsPast : ℕ → ℕ → List Mark → Type 0
 IsPast at seconds [] = Unit {0}
 IsPast at seconds (newest ∷ earlier) = newest.at + seconds ≤ at
@@ -42,8 +42,8 @@ pub record AreMarks (marks : List Mark) : Type 0 where
   pub apart : AreApart marks
   pub few : length marks ≤ MOST_MARKS
 
--- the days until a log of so many entries is full at a moment, at the rate since a mark: nothing is known where that is less than an hour ago, or
--- the log did not grow
+-- the days until a log of this many entries is full at a moment, at the rate since a mark: nothing
+-- is known if that is less than an hour ago, or the log did not grow
 abbrev pub days_since : ℕ → ℕ → Option Mark → Option ℕ
 days_since at entries None = None
 days_since at entries (Some mark) =
@@ -53,7 +53,8 @@ days_since at entries (Some mark) =
 abbrev pub oldest : List Mark → Option Mark
 oldest marks = slice_get marks (length marks - 1)
 
--- At the rate since a mark so many more days leave room in a log of so many entries, and one day more does not.
+-- At the rate since a mark this many more days leave room in a log of this many entries, and one
+-- day more does not.
 pub record LeavesRoom (at entries : ℕ) (mark : Mark) (days : ℕ) : Type 0 where
   pub grew : mark.entries < entries
   pub hour : mark.at + HOUR ≤ at
@@ -64,12 +65,12 @@ pub record LeavesRoom (at entries : ℕ) (mark : Mark) (days : ℕ) : Type 0 whe
 abbrev pub days_left : List Mark → ℕ → ℕ → Option ℕ
 days_left marks at entries = days_since at entries (oldest marks)
 
--- news tell that a log fills, and has room still
+-- news say that a log fills, and still has room
 abbrev pub tells_filling : News → Bool
 tells_filling (LogFills node Filling) = true
 tells_filling (LogFills node NearlyFull) = true
 tells_filling _ = false
 
--- what is told beside news: the days until the log is full, where they tell that it fills
+-- what is logged with news: the days until the log is full, if they say that it fills
 abbrev pub days_told : List Mark → ℕ → ℕ → News → Option ℕ
 days_told marks at entries news = if tells_filling news then days_left marks at entries else None

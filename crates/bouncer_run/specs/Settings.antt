@@ -1,4 +1,4 @@
--- What a driver goes by, as the configuration says it.
+-- The settings of a driver, as the configuration says them.
 use Rattle.std.specs.Prelude.{◌≡◌, ℕ, List, map}
 use Rattle.bouncer_config.specs.declared.config.Config.{Config}
 use Rattle.bouncer_config.specs.declared.channel_keys.ChannelKey.{ChannelKey}

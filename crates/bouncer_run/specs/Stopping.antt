@@ -2,7 +2,7 @@
 use Rattle.std.specs.Prelude.{ℕ, ◌+◌, ◌^◌, ◌-◌, min, nat_le, Bool, false, ◌||◌, Option, Some, None}
 use Rattle.bouncer_run.specs.declared.stopping.TheConstants.{LONGEST_STOP}
 
--- until when clients may stay: so long after this moment, where the end was not begun before
+-- until when clients may stay: this long after this moment, if the end was not begun before
 abbrev pub begun : ℕ → Option ℕ → Option ℕ
 begun now None = Some (min (now + LONGEST_STOP) (2 ^ 64 - 1))
 begun now (Some until) = Some until

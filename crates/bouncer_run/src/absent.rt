@@ -20,13 +20,14 @@ use std::{fs, io};
 #[derive(Drop)]
 pub struct Absent {
     pub node: NodeId,
-    /// The path of what is not opened: of its journal, or of its folder.
+    /// The path of what is not opened: its journal, or its folder.
     pub path: String,
     pub error: io::Error,
 }
 
-/// The nodes of a group of this size whose folders or journals the system does not open, in rising order. A folder is
-/// made where it is not there, which is noted. Nothing is read yet: a journal that opens may still fail.
+/// The nodes of a group of this size whose folders or journals the system does not open, in rising
+/// order. A folder is made if it is not there, which is noted. Nothing is read yet: a journal that
+/// opens may still fail.
 pub fn absent_in<R: System>(
     rt: &R,
     folders: &[String],
@@ -55,7 +56,7 @@ pub fn absent_in<R: System>(
 }
 
 impl Absent {
-    /// A node of which this is not opened, unless that is want of memory.
+    /// A node of which this is not opened, unless that is for lack of memory.
     fn of(node: NodeId, path: String, error: io::Error) -> Result<Absent, RunFault>
         ensures { IfErr result (λ f. f ≡ RunFault.Memory) }
     {
@@ -66,7 +67,7 @@ impl Absent {
     }
 }
 
-/// The folder of a path is there, one that is made where it is not, and may be opened.
+/// The folder of a path is there, made if need be, and may be opened.
 fn make<R: System>(rt: &R, folder: &str, made: &mut Made) -> io::Result<()> {
     if make_folder(rt, folder)? && made.add_folder(rt.alloc(), folder).is_err() {
         return Err(io::Error::from(ErrorKind::OutOfMemory));
@@ -84,8 +85,8 @@ fn is_openable<R: Files<File = File>>(rt: &R, path: &str) -> io::Result<()> {
     }
 }
 
-/// The nodes of a group of this size that a start would find absent, in rising order. Nothing is made, and what whoever
-/// asks may not open counts as open.
+/// The nodes of a group of this size that a start would find absent, in rising order. Nothing is
+/// made, and what the user who checks may not open counts as open.
 pub fn absent_to_be<R: Files<File = File> + AllocGlobal>(
     rt: &R,
     folders: &[String],
@@ -119,7 +120,7 @@ fn glance<R: Files<File = File>>(rt: &R, folder: &str) -> io::Result<()> {
     Ok(())
 }
 
-/// The path of the folder in which a path lies.
+/// The path of the folder that a path is in.
 fn around(path: &str) -> &str {
     match Path::new(path).parent() {
         Some(folder) if !folder.as_str().is_empty() => folder.as_str(),
@@ -142,7 +143,8 @@ pub fn tell_absent<R: Runtime<File = File>>(rt: &R, absent: &[Absent]) {
     }
 }
 
-/// Says on standard error why these nodes are absent, and what a start without them wants, where others are there.
+/// Says on standard error why these nodes are absent, and what a start without them needs, if the
+/// others are there.
 pub fn tell_refused<R: System>(rt: &R, absent: &[Absent], size: GroupSize) {
     let mut before = "";
     for one in absent {

@@ -1,4 +1,4 @@
-//! Clients that come.
+//! Clients that arrive.
 use crate::edge_news::EdgeNews;
 use crate::event_loop::LoopFault;
 use crate::guest::Hold;
@@ -13,15 +13,15 @@ use std::net::SocketAddr;
 /// How many clients are taken at once.
 const TAKEN: usize = 64;
 
-/// What a client is told where there is no place.
+/// What a client is sent if there is no place.
 const CROWDED: &[u8] = b"ERROR :too many clients\r\n";
 
 /// What a try to take a client gave.
 enum Arrival {
     Client(TcpStream, SocketAddr),
-    /// One came, and went before it was taken.
+    /// One came, and left before it was taken.
     Gone,
-    /// No further one waits.
+    /// No other client waits.
     Nobody,
     /// None can be taken for now.
     Fault(io::Error),
@@ -69,7 +69,7 @@ impl Sockets {
         }
     }
 
-    /// A node's listener can take clients, or can't for now. Whether it could before.
+    /// A node's listener can take clients, or can't for now. Returns whether it could before.
     fn set_deaf(&mut self, node: NodeId, is_deaf: bool) -> bool {
         let Some(listening) = self.listeners.get_mut(node.value() as usize - 1) else {
             return false;
@@ -79,7 +79,7 @@ impl Sockets {
         could
     }
 
-    /// No client can be taken at a node's listener, of which an operator is told once.
+    /// No client can be taken at a node's listener, which is logged once.
     fn tell_deaf(&mut self, node: NodeId, error: io::Error) -> Result<(), LoopFault> {
         if self.set_deaf(node, true) {
             self.tell(EdgeNews::Deaf(node, error))?;
@@ -120,7 +120,7 @@ impl Sockets {
         }
     }
 
-    /// A client came to a node. It is turned away where there is no place, or its node is down.
+    /// A client came to a node. It is turned away if there is no place, or if its node is down.
     fn take_in(
         &mut self,
         now: &Now,
@@ -145,7 +145,7 @@ impl Sockets {
         Ok(())
     }
 
-    /// An operator is told that all places are taken, a few times a minute.
+    /// That all places are taken is logged, a few times a minute.
     fn tell_crowded(&mut self, now: &Now, news: EdgeNews) -> Result<(), LoopFault> {
         if self.crowding.take(now.ms) {
             self.tell(news)?;
@@ -153,7 +153,8 @@ impl Sockets {
         Ok(())
     }
 
-    /// A connection that was just made to a node that takes no client is closed behind a line that says why.
+    /// A connection just made to a node that takes no clients gets a line that says why, and is
+    /// closed.
     fn refuse(
         &mut self,
         now: &Now,
@@ -171,16 +172,17 @@ impl Sockets {
         Ok(())
     }
 
-    /// A connection that was just made is closed behind a line.
+    /// A connection that was just made gets a line, and is closed.
     fn turn_away(&mut self, now: &Now, stream: TcpStream, line: &[u8]) {
         let mut stream = stream;
-        // nothing waits for it yet, so that the system takes the whole line
+        // nothing waits for it yet, so the system takes the whole line
         let _ = stream.write(line);
         self.leaving.add(now.ms, stream);
     }
 
-    /// A client gives its place to a new one: the oldest that has not registered, or else one that is only to be
-    /// closed. What waits for it is written first, as far as it takes that at once. Whether there is one.
+    /// A client gives its place to a new one: the oldest that has not registered, or else one that
+    /// is only to be closed. What waits for it is written first, as far as it takes that at once.
+    /// Returns whether there is one.
     fn make_place(&mut self, now: &Now, driver: &mut Driver) -> Result<bool, LoopFault> {
         let Some(number) = self.who_gives_way(driver) else {
             return Ok(false);
@@ -195,7 +197,7 @@ impl Sockets {
         if guest.connection.is_idle() {
             self.turn_away(now, guest.connection.stream, CROWDED);
         } else {
-            // it was told why already, or a line would land in the middle of another
+            // it got the reason already, or a line would land in the middle of another
             self.leaving.add(now.ms, guest.connection.stream);
         }
         driver.lose(now, number)?;
@@ -213,7 +215,7 @@ impl Sockets {
         None
     }
 
-    /// The number of the oldest client with such a hold on its place.
+    /// The number of the oldest client with this hold on its place.
     fn oldest(&self, driver: &Driver, hold: Hold) -> Option<u64> {
         for (number, guest) in &self.clients {
             if guest.hold(driver.is_attached(*number)) == hold {

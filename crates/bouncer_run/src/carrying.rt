@@ -13,7 +13,7 @@ use raft_log::NodeId;
 use std::net::Net;
 use std::sync::Wait;
 
-/// Does what the driver orders, until it orders nothing more; then what waits at the sockets is
+/// Does what the driver orders until it orders nothing more; then what waits at the sockets is
 /// written.
 pub fn carry_out_all<R: Net + Wait, N: Nodes, O: Operator>(
     rt: &R,
@@ -33,7 +33,7 @@ pub fn carry_out_all<R: Net + Wait, N: Nodes, O: Operator>(
     Ok(())
 }
 
-/// Does what the driver has ordered, in turn. Whether that was anything.
+/// Does what the driver has ordered, in order. Returns whether there was anything.
 fn carry_out_ordered<R: Net + Wait, N: Nodes, O: Operator>(
     rt: &R,
     now: &Now,
@@ -54,7 +54,7 @@ fn carry_out_ordered<R: Net + Wait, N: Nodes, O: Operator>(
     Ok(any)
 }
 
-/// Does these orders, in turn.
+/// Does these orders, in order.
 fn carry_out_each<R: Net + Wait, N: Nodes, O: Operator>(
     rt: &R,
     now: &Now,
@@ -105,7 +105,8 @@ fn carry_out<R: Net + Wait, N: Nodes, O: Operator>(
     }
 }
 
-/// A node's worker is told this, and an operator by which name a client attached, where it asks for that.
+/// Sends this to a node's worker; the name by which a client attached is logged, if this asks for
+/// that.
 fn submit<R: Wait, N: Nodes, O: Operator>(
     rt: &R,
     now: &Now,

@@ -1,4 +1,4 @@
-//! What a run would do, told without one.
+//! What a run would do, reported without one.
 ghost use Rattle.std.specs.Prelude.{◌≤◌, IfErr, IfOk, length};
 ghost use Rattle.raft_log.specs.Peers.{IsGroupSize};
 ghost use Rattle.bouncer_run.specs.Checks.{IsCheckFault, IsSomePlan};
@@ -21,13 +21,14 @@ use std::rt::Runtime;
 pub struct Checked {
     /// Lines of text.
     pub plan: Vec<u8>,
-    /// What becomes of the store, where it may be looked at.
+    /// What would become of the store, if it may be looked at.
     pub store: Option<Foretold>,
 }
 
-/// What a run over the configuration in the file of this path would do. What it would warn of was told on standard
-/// error. Nothing is made or changed, and no journal is locked: it is given no net and no threads. `Store` where the
-/// run would be refused for what lies in the store. Where that may not be read, a line was written to standard error.
+/// What a run over the configuration in the file of this path would do. Its warnings were written
+/// to standard error. Nothing is made or changed, and no journal is locked: this gets no net and no
+/// threads. `Store` if the run would be refused because of the store. If the store may not be read,
+/// a line was written to standard error.
 #[tactic(auto, using(crate::proofs::CheckFaults::of_store))]
 pub fn check<R: Runtime<File = File> + AllocGlobal>(rt: &R, path: &str) -> Result<Checked, RunFault>
     ensures plan { IfOk result (λ checked. IsSomePlan path.now checked.plan.items) }
@@ -42,7 +43,8 @@ pub fn check<R: Runtime<File = File> + AllocGlobal>(rt: &R, path: &str) -> Resul
     }
 }
 
-/// What becomes of the store of a configuration. Where it is not known, a line was written that says why.
+/// What would become of the store of a configuration. If it is not known, a line was written that
+/// says why.
 fn store_of<R: Runtime<File = File> + AllocGlobal>(
     rt: &R,
     config: &Config,
@@ -63,13 +65,13 @@ fn store_of<R: Runtime<File = File> + AllocGlobal>(
     };
     let _ = eprintln!(rt; "{fault}");
     match fault {
-        // who checks may be another user than the bouncer's
+        // the user who checks may not be the bouncer's user
         RenewFault::Unread(_, _) => Ok(None),
         fault => Err(RunFault::of_store(fault.is_memory())),
     }
 }
 
-/// Tells what a configuration is warned of.
+/// Writes the warnings about a configuration.
 fn warn<R: Runtime<File = File> + AllocGlobal>(rt: &R, path: &str, config: &Config) {
     warn_of_readers(rt, path);
     for warning in Warning::all() {

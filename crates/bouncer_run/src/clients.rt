@@ -1,4 +1,4 @@
-//! What happens at the clients' connections, told to the driver.
+//! What happens at the clients' connections goes to the driver.
 ghost use Rattle.std.specs.Prelude.{◌≡◌, [], false, None};
 ghost use Rattle.bouncer_run.specs.Deliveries.{AreOthersSame, HasWritten, guest_at};
 
@@ -55,7 +55,7 @@ impl Sockets {
         Ok(Reading::Ended(Ending::Lost))
     }
 
-    /// More may wait at a client's connection than was read, so that it is told of again. Whether
+    /// More may wait at a client's connection than was read, so it is queued again. Returns whether
     /// it is.
     fn watch_client(&mut self, number: u64) -> bool {
         let Some(guest) = self.clients.get_mut(&number) else {
@@ -90,7 +90,7 @@ impl Sockets {
         }
     }
 
-    /// What is told of a client whose password was wrong.
+    /// What is logged about a client whose password was wrong.
     pub fn wrong_password(&self, number: u64) -> Option<EdgeNews> {
         let guest = self.clients.get(&number)?;
         Some(EdgeNews::WrongPassword(guest.node, number, guest.address))
@@ -133,8 +133,8 @@ impl Sockets {
     }
 }
 
-/// What a client sent goes to the driver. Where nothing new is taken of it, it is told so, but for
-/// a PING, which asks for nothing that is kept.
+/// What a client sent goes to the driver. If nothing new is taken from it, it gets a line that says
+/// so, except for a PING, which asks for nothing that is kept.
 fn take(now: &Now, driver: &mut Driver, number: u64, bytes: &[u8]) -> Result<(), LoopFault> {
     if driver.refuses(number) && !bytes.starts_with(b"PING") {
         driver.refuse(number)?;

@@ -35,12 +35,12 @@ impl Clockwork {
     }
 }
 
-/// The moment now by the time of day, 1970 where it is not known.
+/// The moment now by the time of day, or 1970 if it is not known.
 pub fn time_of_day(rt: &impl Clock) -> Moment {
     moment_of(seconds_of_day(rt))
 }
 
-/// The seconds since 1970 by the time of day, 0 where it is earlier than that, or is not known.
+/// The seconds since 1970 by the time of day, or 0 if it is earlier than that, or not known.
 fn seconds_of_day(rt: &impl Clock) -> u64 {
     let Ok(time) = SystemTime::now(rt) else {
         return 0;
@@ -51,14 +51,14 @@ fn seconds_of_day(rt: &impl Clock) -> u64 {
     }
 }
 
-/// The moment so many seconds after 1970, or the last that there is.
+/// The moment this many seconds after 1970, or the last that there is.
 fn moment_of(seconds: u64) -> Moment
     ensures { result ≡ min seconds second_limit }
 {
     Moment::new(seconds.min(LAST_SECOND))
 }
 
-/// What is done again and again, at most so often.
+/// What is done again and again, at most this often.
 #[derive(Clone, Copy)]
 pub struct Ticks {
     /// How much time is between two, in milliseconds.
@@ -82,7 +82,7 @@ impl Ticks {
         self.due.saturating_sub(ms)
     }
 
-    /// Whether one is due at this moment. Then the next one is due after the time between two.
+    /// Whether one is due at this moment. If so, the next one is due after the time between two.
     pub fn take(&mut self, ms: u64) -> bool
         ensures due { result ≡ nat_le self.old.due ms }
         ensures next { IsTrue result

@@ -8,17 +8,17 @@ use driver::Ending;
 use std::alloc::{AllocError, Global};
 use std::io::{ErrorKind, Read, Write};
 
-/// The most bytes that may wait to be written to one connection: who leaves so much unread is not
-/// there to read it, and what waits is held in memory.
+/// The most bytes that may wait to be written to one connection: a client that leaves so much
+/// unread is not there to read it, and what waits is held in memory.
 const MOST_UNSENT: usize = 4_194_304;
 
 /// How long a connection that is to be closed may take no byte, in milliseconds: one that takes
-/// none for so long is not read, and would keep its place for good.
+/// none for so long is not read by anyone, and would keep its place for good.
 const LONGEST_END: u64 = 60_000;
 
 /// What a read gave.
 pub enum Got {
-    /// So many bytes.
+    /// This many bytes.
     Bytes(usize),
     /// Nothing yet.
     Nothing,
@@ -30,11 +30,11 @@ pub enum Got {
 
 /// How far a connection was read.
 pub enum Reading {
-    /// All that came, or the system tells of the rest.
+    /// All that came was read, or the system reports the rest.
     Done,
     /// The rest has to wait.
     Later,
-    /// To its end, and why it is gone.
+    /// Read to its end, and why the connection is gone.
     Ended(Ending),
 }
 
@@ -42,7 +42,8 @@ pub enum Reading {
 #[derive(Clone, Copy, Debug, PartialEq, Eq)]
 pub enum Phase {
     Open,
-    /// Once all is written. It was to be closed, or took a byte, at this moment, in milliseconds.
+    /// Once all is written. At this moment, in milliseconds, it was to be closed, or last took a
+    /// byte.
     Ending(u64),
 }
 
@@ -51,7 +52,7 @@ pub enum Phase {
 pub enum Flow {
     /// As far as is known.
     Free,
-    /// Not for now. The system tells once it does.
+    /// Not for now. The system reports when it does.
     Full,
     /// Never again.
     Broken,
@@ -93,8 +94,8 @@ impl<S: Read + Write + Drop> Connection<S> {
         }
     }
 
-    /// Bytes are to be written, behind those that wait; not where the connection is to be closed.
-    /// Whether the connection still stands: it does not where too much would wait.
+    /// Bytes are to be written, after those that wait; not if the connection is to be closed.
+    /// Returns whether the connection is still there: it is not if too much would wait.
     pub fn write(&mut self, bytes: &[u8]) -> Result<bool, AllocError>
         ensures stands { IfOk result (λ stands.
             stands ≡ may_wait self.old.phase self.old.unsent bytes.now) }
@@ -131,7 +132,8 @@ impl<S: Read + Write + Drop> Connection<S> {
         self.flow == Flow::Free && !self.unsent.is_empty()
     }
 
-    /// Writes what waits, as far as it is taken at this moment. Whether anything still may be.
+    /// Writes what waits, as far as it is taken at this moment. Returns whether any of it still may
+    /// be taken.
     pub fn flush(&mut self, ms: u64) -> bool
         ensures moves { Moves self.old.unsent self.new.unsent
             (S.contents self.old.stream) (S.contents self.new.stream) }
@@ -170,7 +172,7 @@ impl<S: Read + Write + Drop> Connection<S> {
         self.is_ending() && self.unsent.is_empty()
     }
 
-    /// Whether it is to be closed, and took no byte for a minute.
+    /// Whether it is to be closed, and has taken no byte for a minute.
     pub fn is_late(&self, ms: u64) -> bool
         ensures { result ≡ is_late self.now.phase ms }
     {
@@ -193,7 +195,7 @@ impl Phase {
     }
 }
 
-/// Whether a connection takes bytes, after it took so much.
+/// Whether a connection takes bytes, after a write got this far.
 fn flow_behind(sent: Sent) -> Flow {
     match sent {
         Sent::All => Flow::Free,
@@ -202,7 +204,7 @@ fn flow_behind(sent: Sent) -> Flow {
     }
 }
 
-/// Why a connection is gone, or was not made, of which the system tells this.
+/// Why a connection is gone, or was not made, if the system reports this.
 pub fn ending_of(kind: ErrorKind) -> Ending {
     match kind {
         ErrorKind::ConnectionRefused => Ending::Refused,

@@ -1,4 +1,4 @@
-//! What the driver of a configuration goes by.
+//! The driver's settings, from a configuration.
 ghost use Rattle.std.specs.Prelude.{◌≡◌, ◌++◌, IfOk, OnOk};
 ghost use Rattle.bouncer_run.specs.Settings.{AreSettingsOf, known_keys, said_keys};
 
@@ -9,7 +9,7 @@ use irc_line::Text;
 use raft_log::GroupSize;
 use std::alloc::{AllocError, Global};
 
-/// What the driver of a configuration goes by, whose group has so many nodes.
+/// The driver's settings for a configuration whose group has this many nodes.
 pub fn settings_of(alloc: Global, config: &Config, size: GroupSize) -> Result<Settings, AllocError>
     ensures { IfOk result (AreSettingsOf config.now size) }
 {
@@ -39,7 +39,7 @@ fn keys_of(
     Ok(all)
 }
 
-/// Puts the keys of channels behind others.
+/// Appends the keys of channels to others.
 fn push_keys(
     alloc: Global,
     keys: &[bouncer_config::ChannelKey],

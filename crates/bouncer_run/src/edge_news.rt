@@ -1,4 +1,4 @@
-//! What happens at the edge, as the log tells it.
+//! What happens at the edge, as it is logged.
 use irc_line::Name;
 use raft_log::NodeId;
 use std::net::SocketAddr;
@@ -17,9 +17,9 @@ pub enum EdgeNews {
     /// A client left, or was closed, before it registered.
     Unregistered(NodeId, u64, SocketAddr),
     /// A client had not registered, or was to be closed, when a new one came and all places were
-    /// taken: it gave its own.
+    /// taken: it gave up its own.
     GaveWay(NodeId, u64, SocketAddr),
-    /// All places were taken by clients that registered, so that a new one was turned away.
+    /// All places were taken by clients that registered, so a new one was turned away.
     Crowded(NodeId, SocketAddr),
     /// No client can be taken, and why.
     Deaf(NodeId, io::Error),
@@ -27,7 +27,7 @@ pub enum EdgeNews {
     Refused(String),
     /// A channel is not joined, and why.
     NotJoined(NodeId, String),
-    /// The server took the session of this node, by this nick.
+    /// The server took the session of this node, with this nick.
     Nick(NodeId, Name),
     /// A client attached by this name.
     Named(NodeId, u64, Name),
@@ -36,7 +36,7 @@ pub enum EdgeNews {
 }
 
 impl EdgeNews {
-    /// The node that it is of, where it is of one.
+    /// The node that it is about, if it is about one.
     pub fn node(&self) -> Option<NodeId> {
         match self {
             EdgeNews::Came(node, _, _) | EdgeNews::Closed(node, _, _) => Some(*node),
@@ -49,7 +49,7 @@ impl EdgeNews {
         }
     }
 
-    /// Whether only who looks for a fault wants to know of it.
+    /// Whether it is a detail, wanted only by someone who looks for a fault.
     pub fn is_detail(&self) -> bool {
         matches!(self, EdgeNews::Came(_, _, _) | EdgeNews::Closed(_, _, _))
     }

@@ -15,10 +15,10 @@ use std::thread;
 use std::thread::{JoinHandle, Threads};
 use std::time::Duration;
 
-/// How many bytes are read at once, and forgotten.
+/// How many bytes are read at once, and discarded.
 const CHUNK: usize = 1024;
 
-/// How an input stands.
+/// The state of an input.
 #[derive(Clone, Copy, Debug, PartialEq, Eq)]
 pub enum InputState {
     /// Its end is not known to have come.
@@ -29,8 +29,8 @@ pub enum InputState {
     Unreadable,
 }
 
-/// How an input stands, without a wait for what may still come. What came already may be read, and
-/// is forgotten.
+/// The state of an input, without waiting for what may still come. What came already may be read,
+/// and is discarded.
 pub fn look_at<N: Net, I: Read + AsRawFd>(
     net: &N,
     alloc: Global,
@@ -44,7 +44,7 @@ pub fn look_at<N: Net, I: Read + AsRawFd>(
     Ok(read_once(input))
 }
 
-/// Whether a read would not wait. What can't be waited for, as a file, is read at once.
+/// Whether a read would not wait. What can't be waited for, such as a file, is read at once.
 fn is_readable(net: &impl Net, alloc: Global, input: i32) -> io::Result<bool> {
     let mut poll = Poll::new(net)?;
     let mut events = Events::with_capacity(alloc, 1)?;
@@ -60,7 +60,7 @@ fn is_readable(net: &impl Net, alloc: Global, input: i32) -> io::Result<bool> {
     Ok(!events.is_empty())
 }
 
-/// How an input stands by one read.
+/// The state of an input after one read.
 fn read_once<I: Read>(input: &mut I) -> InputState
     ensures { result ≡ Ended → IsAtEnd (I.remaining input.new) }
 {
@@ -75,8 +75,8 @@ fn read_once<I: Read>(input: &mut I) -> InputState
     }
 }
 
-/// Reads an input in a thread of its own, and tells the loop when it ends. None where there is no
-/// thread to be had.
+/// Reads an input in a thread of its own, and tells the loop when it ends. None if no thread can be
+/// started.
 pub fn watch_input<R, I>(rt: &R, input: I, inlet: Inlet) -> Option<JoinHandle<()>>
 where
     R: Threads + Wait + Sync + Send + Copy + 'static,
@@ -96,7 +96,7 @@ fn wait_for_end<R: Wait, I: Read + Drop>(rt: &R, input: I, inlet: &Inlet) {
     let _ = inlet.tell(rt, LoopMessage::End);
 }
 
-/// Whether the input was read to its end; where it was not, it can't be read.
+/// Whether the input was read to its end; if not, it can't be read.
 fn read_to_end<I: Read>(input: &mut I) -> bool
     ensures { IsTrue result → IsAtEnd (I.remaining input.new) }
 {

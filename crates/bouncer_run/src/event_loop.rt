@@ -23,16 +23,16 @@ use std::sync::Wait;
 use std::time::Duration;
 use thiserror::Error;
 
-/// How many sockets are told of at once.
+/// How many sockets are reported at once.
 const EVENTS: usize = 256;
 
 /// How many messages are heard before the sockets are looked at again.
 const MOST_MESSAGES: usize = 10_000;
 
-/// Why the loop ended before it was to.
+/// Why the loop ended early.
 #[derive(Clone, Copy, Debug, Drop, PartialEq, Eq, Error)]
 pub enum LoopFault {
-    /// The journals do not lie at their paths any more.
+    /// The journals are no longer at their paths.
     #[error("Store")]
     Store,
     #[error("Socket")]
@@ -52,23 +52,24 @@ impl From<AllocError> for LoopFault {
     }
 }
 
-/// The nodes' workers, as the loop speaks to them. What is proved of the loop is proved over any of them: then nothing
-/// but `tell` says that a node was told a note.
+/// The nodes' workers, as the loop speaks to them. The proofs about the loop hold for any of them:
+/// so only `tell` says that a node was sent a note.
 pub trait Nodes {
     ghost use Rattle.std.specs.Prelude.{ℕ};
     ghost use Rattle.bouncer_run.specs.Submissions.{TowerNote};
 
-    /// That this node was told this note, and they are as they are since.
+    /// This node was sent this note, and the nodes are as they are since.
     ghost has_told: { Self → ℕ → TowerNote → Self → Type 0 };
 
-    /// A node's worker is told something. Whether it was: else there was no memory, or the worker
-    /// ended.
+    /// Sends a note to a node's worker. Returns whether it was sent: if not, there was no memory,
+    /// or the worker ended.
     fn tell<R: Wait>(&mut self, rt: &R, node: NodeId, note: TowerNote) -> bool
         ensures told { IsTrue result → has_told self.old node note self.new };
 }
 
-/// Waits for sockets, for messages and for time to pass, until it is told to end, and clients that attached are
-/// gone, or had time to be; an operator is told what happens. `Store` where the journals lie at their paths no more.
+/// Waits for sockets, messages and time to pass, until the bouncer is to end and clients that
+/// attached are gone or had time to go; what happens is logged. `Store` if the journals are no
+/// longer at their paths.
 pub fn run_loop<R: Net + Wait + Clock + Files, N: Nodes, O: Operator>(
     rt: &R,
     alloc: Global,
@@ -100,7 +101,7 @@ pub fn run_loop<R: Net + Wait + Clock + Files, N: Nodes, O: Operator>(
             look(rt, &now, watch)?;
             tick(rt, &now, driver, sockets, operator)?;
         }
-        // what the sockets tell comes before what the driver made of it
+        // what the sockets report comes before what the driver made of it
         tell_edge(&now, sockets, operator);
         carry_out_all(rt, &now, driver, sockets, nodes, operator)?;
         tell_edge(&now, sockets, operator);
@@ -112,7 +113,7 @@ pub fn run_loop<R: Net + Wait + Clock + Files, N: Nodes, O: Operator>(
     Ok(())
 }
 
-/// The input ended: an operator is told so at once, nobody is taken any more, and clients leave.
+/// The input ended: this is logged at once, no more clients are taken, and clients leave.
 fn stop<O: Operator>(
     now: &Now,
     driver: &mut Driver,
@@ -125,7 +126,7 @@ fn stop<O: Operator>(
     Ok(())
 }
 
-/// Not all journals are away from their paths, as far as a look that is due tells.
+/// Not all journals are away from their paths, as far as a look that is due shows.
 fn look<R: Files>(rt: &R, now: &Now, watch: &mut StoreWatch) -> Result<(), LoopFault> {
     if watch.look(rt, now.ms) {
         return Err(LoopFault::Store);
@@ -133,7 +134,8 @@ fn look<R: Files>(rt: &R, now: &Now, watch: &mut StoreWatch) -> Result<(), LoopF
     Ok(())
 }
 
-/// Time has passed: the driver and the sockets do what is due, and an operator is told how long the log is.
+/// Time has passed: the driver and the sockets do what is due, and the operator learns how long the
+/// log is.
 fn tick<R: Net, O: Operator>(
     rt: &R,
     now: &Now,
@@ -153,7 +155,7 @@ fn tick<R: Net, O: Operator>(
     Ok(())
 }
 
-/// What other threads told goes to the driver. Whether the bouncer is to end.
+/// What other threads sent goes to the driver. Returns whether the bouncer is to end.
 fn hear_messages(
     rt: &impl Wait,
     now: &Now,
@@ -171,7 +173,7 @@ fn hear_messages(
     Ok(false)
 }
 
-/// What another thread told goes to the driver. Whether the bouncer is to end.
+/// What another thread sent goes to the driver. Returns whether the bouncer is to end.
 fn hear_message(now: &Now, driver: &mut Driver, message: LoopMessage) -> Result<bool, LoopFault>
     ensures heard { OnOk result (IsHeard now.now message driver.old driver.new) }
     ensures over { IfOk result (λ over. over ≡ is_end message) }

@@ -1,4 +1,4 @@
-//! Why the nodes of a bouncer do not start, as the program tells it.
+//! Why the nodes of a bouncer do not start, as the program reports it.
 ghost use Rattle.std.specs.Prelude.{◌≡◌};
 ghost use Rattle.bouncer_run.specs.ClusterFaults.{fault_by};
 
@@ -6,8 +6,8 @@ use crate::run_fault::RunFault;
 use node_threads::ClusterFault;
 use raft_node::{Cause, NodeFault};
 
-/// What it is to the program that the nodes do not start: want of memory is that, also a node's
-/// own, and all else lies in a node's store.
+/// What it means to the program that the nodes do not start: out of memory is that, also a node's
+/// own, and all else is a fault of a node's store.
 pub fn fault_of_cluster(fault: ClusterFault) -> RunFault
     ensures { result ≡ fault_by fault }
 {

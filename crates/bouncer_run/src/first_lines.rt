@@ -14,7 +14,8 @@ fn line_of(alloc: Global, text: &Text) -> Result<Option<Line>, AllocError> {
     }
 }
 
-/// The lines of texts, in their order. What is no line is left out: who reads a configuration refuses it.
+/// The lines of texts, in their order. A text that is no line is left out: reading a configuration
+/// refuses it.
 pub fn first_lines(alloc: Global, texts: &[Text]) -> Result<Vec<Line>, AllocError> {
     let mut lines = Vec::new(alloc);
     for text in texts {

@@ -1,4 +1,4 @@
-//! How fast a log grew before the program began, by the moments in its entries.
+//! How fast a log grew before the program began, by the times in its entries.
 ghost use Rattle.std.specs.Prelude.{◌≡◌, ◌⊎◌, ◌≤◌, ◌∷◌, IfOk, length, map, option_map};
 ghost use Rattle.journal_folder.specs.Runs.{those_there};
 ghost use Rattle.bouncer_run.specs.Days.{IsDayBefore, IsFirst, IsLastBefore, IsLongest, IsOneOf, IsRateOf, is_before, moment_in};
@@ -13,8 +13,8 @@ use std::alloc::{AllocError, Global};
 use upstream_claim::ClaimsCommand;
 use wire_bytes::{Moment, Number};
 
-/// How fast the longest log of those of these journals that are open grew in the day before this moment, as its entries
-/// tell.
+/// How fast the longest log of these journals that are open grew in the day before this time, as
+/// its entries show.
 pub fn rate_of(
     alloc: Global,
     journals: &[Option<FileJournal<TowerBody>>],
@@ -33,7 +33,7 @@ pub fn rate_of(
     }
 }
 
-/// The longest one of a log and those of journals that are open.
+/// The longest of one log and those of the journals that are open.
 #[tactic(auto, using(crate::proofs::Longest::longest_of_two, crate::proofs::Longest::one_of_two, crate::proofs::Longest::as_itself))]
 fn longest<'a>(
     first: &'a Log<TowerBody>,
@@ -64,8 +64,8 @@ fn longer<'a>(first: &'a Log<TowerBody>, second: &'a Log<TowerBody>) -> &'a Log<
     }
 }
 
-/// How long a log was a day before this moment, as its entries tell; where none is as old, how long it was at the
-/// first moment that they tell of.
+/// How long a log was a day before this time, as its entries show; if none is that old, how long it
+/// was at the first time in them.
 fn day_before(log: &Log<TowerBody>, now: Moment) -> Option<Mark>
     ensures { IsDayBefore now log.now result }
 {
@@ -76,8 +76,8 @@ fn day_before(log: &Log<TowerBody>, now: Moment) -> Option<Mark>
     }
 }
 
-/// The place of the last entry that is known to be of before this moment, 0 where none is. Entries are looked at from
-/// the end, since a log may be long.
+/// The place of the last entry that is known to be from before this time, or 0 if none is. The
+/// search begins at the end, since a log may be long.
 fn last_before(log: &Log<TowerBody>, at: Moment) -> u64
     ensures { IsLastBefore at log.now result }
 {
@@ -91,7 +91,7 @@ fn last_before(log: &Log<TowerBody>, at: Moment) -> u64
     0
 }
 
-/// The place and the moment of the first entry that has a moment.
+/// The place and the time of the first entry that has a time.
 fn first(log: &Log<TowerBody>) -> Option<Mark>
     ensures { IsFirst log.now result }
 {
@@ -107,7 +107,7 @@ fn first(log: &Log<TowerBody>) -> Option<Mark>
     None
 }
 
-/// Whether a body is known to be of before this moment.
+/// Whether a body is known to be from before this time.
 fn is_before(body: &TowerBody, at: Moment) -> bool
     ensures { result ≡ is_before at body.now }
 {
@@ -117,7 +117,7 @@ fn is_before(body: &TowerBody, at: Moment) -> bool
     }
 }
 
-/// The moment of a body, where it is a client's request or a line from the server.
+/// The time in a body, if it is a client's request or a line from the server.
 fn moment_in(body: &TowerBody) -> Option<Moment>
     ensures { result ≡ moment_in body.now }
 {

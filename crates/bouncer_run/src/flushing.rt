@@ -8,7 +8,7 @@ use driver::{Driver, Now};
 use std::alloc::AllocError;
 
 impl Sockets {
-    /// What waits is written, for each connection once. Whether one was closed by it.
+    /// What waits is written, for each connection once. Returns whether this closed one.
     pub fn flush_all(&mut self, now: &Now, driver: &mut Driver) -> Result<bool, LoopFault> {
         let mut any = self.flush_server(now, driver)?;
         for number in self.flush_clients(now)? {
@@ -23,7 +23,7 @@ impl Sockets {
         Ok(any)
     }
 
-    /// What waits is written to the server. Whether its connection was closed by it.
+    /// What waits is written to the server. Returns whether this closed its connection.
     fn flush_server(&mut self, now: &Now, driver: &mut Driver) -> Result<bool, LoopFault> {
         let Some(connection) = &mut self.server else {
             return Ok(false);
@@ -35,8 +35,8 @@ impl Sockets {
         Ok(true)
     }
 
-    /// What waits is written to each client. The clients that are to be closed now, or whose
-    /// connection broke.
+    /// What waits is written to each client. Returns the clients that are to be closed now, or
+    /// whose connection broke.
     fn flush_clients(&mut self, now: &Now) -> Result<Vec<u64>, AllocError> {
         let mut closing = Vec::new(self.alloc);
         for (number, guest) in self.clients.iter_mut() {
@@ -57,7 +57,7 @@ impl Sockets {
         }
     }
 
-    /// A client's connection is to be closed, behind what is still to be written.
+    /// A client's connection is to be closed, after what is still to be written.
     pub fn close(&mut self, now: &Now, number: u64)
         ensures client { HasWritten [] true (guest_at self.old number) (guest_at self.new number) }
         ensures others { AreOthersSame number self.old self.new }
@@ -77,7 +77,7 @@ impl Sockets {
         self.accept_again(now, driver)
     }
 
-    /// The clients that are to be closed, and took nothing for too long.
+    /// The clients that are to be closed, and have taken nothing for too long.
     fn late(&self, now: &Now) -> Result<Vec<u64>, AllocError> {
         let mut numbers = Vec::new(self.alloc);
         for (number, guest) in &self.clients {

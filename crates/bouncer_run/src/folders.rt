@@ -1,4 +1,4 @@
-//! The folders of the journals, as they are told.
+//! The folders of the journals, as they are logged.
 use std::fmt;
 
 /// The folders of the journals: one, or one for each node with a comma between two.

@@ -1,4 +1,4 @@
-//! Nodes listen where they take clients.
+//! Nodes listen while they take clients.
 use crate::edge_news::EdgeNews;
 use crate::event_loop::LoopFault;
 use crate::sockets::Sockets;
@@ -14,15 +14,16 @@ enum Change {
 }
 
 impl Sockets {
-    /// A node is down from the start: its address, which could be had, refuses connections until it is up.
+    /// A node is down from the start: its address, at which it could have listened, refuses
+    /// connections until the node is up.
     pub fn begin_down(&mut self, node: NodeId) {
         if let Some(listening) = self.listeners.get_mut(node.value() as usize - 1) {
             listening.was_open = true;
         }
     }
 
-    /// Each node listens where it takes clients. Of one that did and does not, the clients that wait are told why, and
-    /// then its address refuses connections.
+    /// Each node listens while it takes clients. When a node stops taking them, the clients that
+    /// wait get the reason, and then its address refuses connections.
     pub fn follow<N: Net>(
         &mut self,
         net: &N,
@@ -43,7 +44,7 @@ impl Sockets {
         Ok(())
     }
 
-    /// What is to be done about the address of a node that takes clients, or does not.
+    /// What is to be done about the address of a node, given whether it takes clients.
     fn change(&mut self, node: NodeId, is_open: bool) -> Change {
         let Some(listening) = self.listeners.get_mut(node.value() as usize - 1) else {
             return Change::Nothing;
@@ -58,8 +59,8 @@ impl Sockets {
         }
     }
 
-    /// A node listens at its address again. Where it can't, an operator is told once, and it is tried again at the next
-    /// tick.
+    /// A node listens at its address again. If it can't, that is logged once, and it is tried again
+    /// at the next tick.
     fn open_address<N: Net>(&mut self, net: &N, node: NodeId) -> Result<(), LoopFault> {
         let place = node.value() as usize - 1;
         let Some(listening) = self.listeners.get(place) else {

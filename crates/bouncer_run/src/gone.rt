@@ -1,15 +1,15 @@
-//! What clients are told as a session ends.
+//! What clients are sent when a session ends.
 use driver::Driver;
 use std::alloc::{AllocError, Global};
 
-/// Where the server was heard since the last line was sent.
+/// If the server was heard since the last line was sent.
 const GONE: &[u8] = b"The server is gone. What you say is sent later.";
 
-/// Where one line was sent since the server was last heard.
+/// If one line was sent since the server was last heard.
 const ONE_UNHEARD: &[u8] =
     b"The server is gone. The last line that was sent may not have arrived. What you say now is sent later.";
 
-/// Clients are told that the server is gone, and how many lines may not have arrived there.
+/// Clients are sent that the server is gone, and how many lines may not have arrived there.
 pub fn tell_gone(alloc: Global, driver: &mut Driver) -> Result<(), AllocError> {
     match driver.unheard() {
         0 => driver.notice(GONE),

@@ -1,4 +1,4 @@
-//! What a configuration says of the group of nodes.
+//! What a configuration says about the group of nodes.
 ghost use Rattle.std.specs.Prelude.{◌≡◌, length};
 ghost use Rattle.raft_log.specs.Peers.{IsGroupSize};
 ghost use Rattle.bouncer_run.specs.Groups.{recording_by};
@@ -19,7 +19,7 @@ pub fn size_of(config: &Config) -> GroupSize
     }
 }
 
-/// Turns are kept where the configuration names a file for the record, and not otherwise.
+/// Turns are kept if the configuration names a file for the record, and not otherwise.
 pub fn recording_of(config: &Config) -> Recording
     ensures { result ≡ recording_by config.now.record }
 {

@@ -1,4 +1,4 @@
-//! When a log is full, as an operator is told.
+//! When a log is full, as it is logged.
 ghost use Rattle.std.specs.Prelude.{◌≡◌, OnErr, OnOk};
 ghost use Rattle.bouncer_run.specs.Rates.{days_told, noted};
 
@@ -15,14 +15,14 @@ pub struct Growth {
 }
 
 impl Growth {
-    /// It grew so fast, and how long it is is not known yet.
+    /// It grew this fast, and its length is not known yet.
     pub fn new(rate: LogRate) -> Growth
         ensures { result ≡ record { rate = rate; entries = 0 } }
     {
         Growth { rate, entries: 0 }
     }
 
-    /// The log is so long now.
+    /// The log is this long now.
     pub fn hear(&mut self, now: &Now, entries: u64) -> Result<(), AllocError>
         ensures entries { self.new.entries ≡ entries }
         ensures ok { OnOk result (self.new.rate
@@ -33,7 +33,7 @@ impl Growth {
         self.rate.note(now.at, entries)
     }
 
-    /// In how many days the log is full, where this tells that it fills, and it is known.
+    /// In how many days the log is full, if this says that it fills, and if it is known.
     pub fn days_of(&self, now: &Now, news: &News) -> Option<u64>
         ensures { result ≡ days_told self.now.rate now.now.at self.now.entries news.now }
     {

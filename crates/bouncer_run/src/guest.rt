@@ -13,14 +13,14 @@ use std::net::SocketAddr;
 /// How far a client came.
 #[derive(Clone, Copy, Debug, PartialEq, Eq)]
 pub enum Stage {
-    /// It did not register so far.
+    /// It has not registered so far.
     Arriving,
-    /// Its password was wrong, as the driver tells.
+    /// Its password was wrong, as the driver reports.
     Refused,
     Registered,
 }
 
-/// What hold a client has on its place, the least first.
+/// A client's hold on its place, the weakest first.
 #[derive(Clone, Copy, Debug, PartialEq, Eq)]
 pub enum Hold {
     /// It has not registered.
@@ -53,7 +53,7 @@ impl Guest {
         }
     }
 
-    /// It is written these bytes. Whether its connection still stands.
+    /// It is written these bytes. Returns whether its connection is still there.
     pub fn write(&mut self, bytes: &[u8]) -> Result<bool, AllocError>
         ensures stands { IfOk result (λ stands. stands
             ≡ may_wait self.old.connection.phase self.old.connection.unsent bytes.now) }
@@ -68,7 +68,7 @@ impl Guest {
         self.connection.write(bytes)
     }
 
-    /// What hold it has on its place, where the driver knows that it registered, or not yet.
+    /// Its hold on its place, given whether the driver knows that it registered.
     pub fn hold(&self, is_attached: bool) -> Hold
         ensures { result ≡ hold (is_attached || is_registered self.now.stage)
             (is_ending self.now.connection.phase) (length self.now.connection.unsent) }
@@ -84,7 +84,7 @@ impl Guest {
         }
     }
 
-    /// What an operator is told where the client of this number goes and did not register.
+    /// What is logged if the client of this number goes and did not register.
     pub fn parting(&self, number: u64) -> Option<EdgeNews>
         ensures { result ≡ parting self.now.stage self.now.node number self.now.address }
     {

@@ -1,4 +1,4 @@
-//! Lines that a node hands out, told to the loop.
+//! Lines that a node hands out, sent to the loop.
 ghost use Rattle.std.specs.Prelude.{◌≡◌, ◌++◌, ◌∷◌, [], IfSome};
 ghost use Rattle.node_cells.specs.Upstreams.{one_more};
 ghost use Rattle.bouncer_run.specs.Pasts.{lines_of};
@@ -15,17 +15,18 @@ use std::snapshot::Snapshot;
 use std::sync::Wait;
 use wire_bytes::Copied;
 
-/// Tells the loop the lines that a node hands out. The report of the same turn leaves them out, so that the
-/// loop is told each line once: it counts as handed by what the loop is told here.
+/// Sends to the loop the lines that a node hands out. The report of the same turn leaves them out,
+/// so that the loop gets each line once: the lines that are sent to the loop here count as handed
+/// out.
 #[derive(Drop)]
 pub struct Hands<R: Wait + Drop> {
     rt: R,
     alloc: Global,
     node: NodeId,
     inlet: Inlet,
-    /// Each line that the loop was told, with its number.
+    /// Each line that the loop got, with its number.
     told: Snapshot<Past>,
-    /// How many lines it was not told.
+    /// How many lines it did not get.
     failures: u64,
 }
 
@@ -45,7 +46,7 @@ impl<R: Wait + Drop> Hands<R> {
         }
     }
 
-    /// The loop is told a line of this node, where it can be.
+    /// The loop is sent a line of this node, if it can be.
     fn tell(&self, line: Line) -> Option<Told>
         ensures { IfSome result (λ told. told.message.value ≡ Hand self.now.node line) }
     {
@@ -58,7 +59,7 @@ impl<R: Wait + Drop> Hands<R> {
         }
     }
 
-    /// The loop was told this line.
+    /// The loop got this line.
     fn keep(&mut self, number: u64, line: &Line, _told: Told)
         requires { _told.message.value ≡ Hand self.old.node line.now }
         ensures told { lines_of self.new.told.value
@@ -69,7 +70,7 @@ impl<R: Wait + Drop> Hands<R> {
         self.told = Past::with(told, number, line);
     }
 
-    /// One more line was not told.
+    /// One more line was not sent.
     fn miss(&mut self)
         ensures told { self.new.told ≡ self.old.told }
         ensures failures { self.new.failures ≡ one_more self.old.failures }

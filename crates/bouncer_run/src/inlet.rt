@@ -1,4 +1,4 @@
-//! How the loop is told something by other threads.
+//! How other threads send something to the loop.
 ghost use Rattle.std.specs.Prelude.{◌≡◌, IfErr, IfOk};
 
 use crossbeam_channel::Sender;
@@ -9,10 +9,10 @@ use raft_log::NodeId;
 use std::snapshot::Snapshot;
 use std::sync::{Arc, Wait};
 
-/// What the loop is told by other threads.
+/// What other threads send to the loop.
 #[derive(Drop)]
 pub enum LoopMessage {
-    /// A node's worker tells what came of a turn.
+    /// A node's worker reports the result of a turn.
     Report(TowerReport),
     /// A node handed out a line for the server.
     Hand(NodeId, Line),
@@ -20,13 +20,13 @@ pub enum LoopMessage {
     End,
 }
 
-/// That the loop was told a message: only `Inlet::tell` makes one.
+/// The loop was sent a message: only `Inlet::tell` makes one.
 #[derive(Drop)]
 pub struct Told {
     pub(crate) message: Snapshot<LoopMessage>,
 }
 
-/// Tells the loop something, and wakes it.
+/// Sends something to the loop, and wakes it.
 #[derive(Drop)]
 pub struct Inlet {
     pub messages: Sender<LoopMessage>,
@@ -34,7 +34,7 @@ pub struct Inlet {
 }
 
 impl Inlet {
-    /// The loop is told a message, which is given back where there is no memory, or the loop ended.
+    /// The loop is sent a message, which is returned if there is no memory, or if the loop ended.
     pub fn tell(&self, rt: &impl Wait, message: LoopMessage) -> Result<Told, LoopMessage>
         ensures told { IfOk result (λ told. told.message.value ≡ message) }
         ensures back { IfErr result (λ back. back ≡ message) }
@@ -45,7 +45,7 @@ impl Inlet {
         if let Err(error) = self.messages.send(rt, message) {
             return Err(error.into_inner());
         }
-        // where it can't be woken, the loop hears of it at its next tick
+        // if it can't be woken, the loop hears of it at its next tick
         let _ = self.waker.wake();
         Ok(told)
     }

@@ -1,4 +1,4 @@
-//! Ways to tell the loop something.
+//! Ways to send something to the loop.
 use crate::inlet::{Inlet, LoopMessage};
 use crossbeam_channel::Sender;
 use mio::Waker;
@@ -13,7 +13,7 @@ pub struct Inlets {
 }
 
 impl Inlets {
-    /// One more way to tell the loop something.
+    /// One more way to send something to the loop.
     pub fn one(&self) -> Result<Inlet, AllocError> {
         let Ok(messages) = self.messages.clone() else {
             return Err(AllocError);

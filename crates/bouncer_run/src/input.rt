@@ -10,8 +10,8 @@ use bouncer_config::InputEnd;
 use std::io::Read;
 use std::os::fd::AsRawFd;
 
-/// The input, where its end is to stop the bouncer. Where it is at its end already, a line was
-/// written to standard error that names the configuration, and says what to do.
+/// The input, if its end is to stop the bouncer. If it is at its end already, a line was written to
+/// standard error that names the configuration and says what to do.
 pub fn open_input<R: System, I: Read + AsRawFd + Drop>(
     rt: &R,
     path: &str,

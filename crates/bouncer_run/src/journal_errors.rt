@@ -9,14 +9,14 @@ use std::alloc::{AllocError, Global};
 use std::{fmt, io};
 use wire_bytes::MOST_NODES;
 
-/// Why each node's journal failed last, node 1's first, also while the nodes have them.
+/// Why each node's journal failed last, node 1's first, also while the nodes use them.
 #[derive(Drop)]
 pub struct JournalErrors {
     errors: Vec<LastError>,
 }
 
 impl JournalErrors {
-    /// Of these journals, and of those that are opened late.
+    /// Those of these journals, and of those that are opened late.
     pub fn of(
         alloc: Global,
         journals: &[Option<FileJournal<TowerBody>>],
@@ -40,13 +40,13 @@ impl JournalErrors {
         }
     }
 
-    /// Where it is noted why the journal of a node failed, if there is such a node.
+    /// The place to note why the journal of a node failed, if there is such a node.
     pub fn of_node(&self, node: NodeId) -> Option<&LastError> {
         let place = (node.value() as usize).checked_sub(1)?;
         self.errors.get(place)
     }
 
-    /// The first node whose journal failed, if one did, and why, if the system told it.
+    /// The first node whose journal failed, if one did, and why, if the system reported it.
     pub fn first(&self) -> Option<(NodeId, Option<io::Error>)> {
         for index in 0..MOST_NODES {
             if let Some(error) = self.errors.get(index as usize) {
@@ -58,7 +58,7 @@ impl JournalErrors {
         None
     }
 
-    /// Why the journal of a node failed, where this tells that the node is down for that.
+    /// Why the journal of a node failed, if this says that the node is down for that reason.
     pub fn of_news(&self, news: &News) -> Option<io::Error> {
         let News::Down(node, Cause::Store) = news else {
             return None;

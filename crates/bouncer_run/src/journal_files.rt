@@ -27,20 +27,21 @@ use wire_bytes::MOST_NODES;
 pub struct NodeJournals {
     /// Those that are open.
     pub opened: Vec<Option<FileJournal<TowerBody>>>,
-    /// The nodes of the others, and why these are not open.
+    /// The nodes whose journals are not open, and why.
     pub absent: Vec<Absent>,
-    /// What the store says of itself, byte by byte, where a journal is not open.
+    /// What the store says about itself, byte by byte, if a journal is not open.
     pub setup: Vec<u8>,
 }
 
-/// A journal for each node, node 1's first, in the folder that the configuration names, or in one for each, which are
-/// made where they are not there. A renewal that was decided is finished first. Then the store is of the configuration's
-/// setup and number of nodes: its log is begun anew where it was of others, and where some of its journals are lost or
-/// older copies. The folders and the files that are made are noted. Where there are no journals, a line was written to
-/// standard error that names the folder or the file, and says why.
+/// A journal for each node, node 1's first, in the folder that the configuration names, or in one
+/// for each, which are made if they are not there. A renewal that was decided is finished first.
+/// Then the store is made to fit the configuration's setup and number of nodes: its log is begun
+/// anew if it was of another setup or number of nodes, or if some of its journals are lost or older
+/// copies. The folders and files that are made are noted. If there are no journals, a line was
+/// written to standard error that names the folder or the file and says why.
 ///
-/// A journal that the system does not open is not there, where more than half are, and their store goes on as it is; a
-/// line was written that says why.
+/// A journal that the system does not open is left out, if more than half of the journals are there
+/// and their store goes on as it is; a line was written that says why.
 pub fn journals<R: System>(
     rt: &R,
     config: &Config,
@@ -99,13 +100,14 @@ fn whole<R: System>(
     if !unopened.is_lost() {
         return Err(unopened);
     }
-    // what was opened is let go by now, so that the journals may be locked and read, all of them
+    // what was opened is released by now, so that all journals may be locked and read
     let settled = settle_by_reading(rt, folders, config, config.renew_at as u64);
     take(rt, config, settled, made)?;
     open_all(rt, folders, size, &[], made)
 }
 
-/// The journals of all nodes but those of some that the system does not open, and of others that are found so.
+/// The journals of all nodes except some that the system does not open, and others that turn out
+/// so.
 fn without<R: System>(
     rt: &R,
     config: &Config,
@@ -145,8 +147,8 @@ fn without<R: System>(
     Err(RunFault::Store)
 }
 
-/// What the store says of itself, where the journals of more than half of the nodes may be opened, and it goes on as it
-/// is. Else a line was written that says why it does not, if that is not only that it is not so.
+/// What the store says about itself, if the journals of more than half of the nodes may be opened,
+/// and it goes on as it is; else `None`. On a fault of the store, a line was written that says why.
 pub fn goes_on_without<R: Runtime<File = File> + AllocGlobal>(
     rt: &R,
     config: &Config,

@@ -16,20 +16,21 @@ use std::{fs, io};
 use thiserror::Error;
 use wire_bytes::Number;
 
-/// The journal of a node, which could not be opened as the program started. It is opened once it can be, if it is that
-/// of the same store, and not older than the other journals told at the start.
+/// The journal of a node that could not be opened when the program started. It is opened once it
+/// can be, if it is of the same store, and not older than the other journals showed at the start.
 #[derive(Drop)]
 pub struct LateJournal<R: Files<File = File> + Eprint + AllocGlobal + Copy> {
     rt: R,
     path: String,
     /// The path of the file in which the store says what it is.
     setup_path: String,
-    /// What stands in that file beside the other journals.
+    /// What is in that file beside the other journals.
     setup: Vec<u8>,
-    /// The last run of its node that the other journals told of.
+    /// The last run of its node that the other journals showed.
     run: Number,
     last_error: LastError,
-    /// What was told last of why it is not opened, but for errors of the system, which the loop tells.
+    /// The last reason that was logged for not opening it, except errors of the system, which the
+    /// loop logs.
     told: String,
 }
 
@@ -45,7 +46,8 @@ enum LateFault {
 }
 
 impl<R: Files<File = File> + Eprint + AllocGlobal + Copy> LateJournal<R> {
-    /// Of a node, in this folder. The others say this of their store, and told of this run of the node.
+    /// Of a node, in this folder. The other journals say this about their store, and showed this
+    /// run of the node.
     pub fn of(
         rt: &R,
         folder: &str,
@@ -68,7 +70,7 @@ impl<R: Files<File = File> + Eprint + AllocGlobal + Copy> LateJournal<R> {
         })
     }
 
-    /// The journal, where it can be opened now, and may be used.
+    /// The journal, if it can be opened now, and may be used.
     fn opened(&self) -> Result<FileJournal<TowerBody>, LateFault>
         ensures serves { IfOk result (λ j. j.broken ≡ false) }
         ensures not_older { IfOk result (λ j. self.now.run ≤ j.saved.boot) }
@@ -87,7 +89,8 @@ impl<R: Files<File = File> + Eprint + AllocGlobal + Copy> LateJournal<R> {
         }
     }
 
-    /// Why the journal is not opened is told on standard error, where that is something else than was told last.
+    /// Why the journal is not opened is written to standard error, if it is another reason than the
+    /// last one.
     fn tell(&mut self, fault: &LateFault)
         ensures { self.new.run ≡ self.old.run }
     {
@@ -106,7 +109,7 @@ impl<R: Files<File = File> + Eprint + AllocGlobal + Copy> Opener<FileJournal<Tow
     for LateJournal<R> {
     ghost use Rattle.std.specs.Prelude.{◌≡◌, ◌≤◌, false};
 
-    // whether the file beside it is that of the others, no clause can say
+    // no clause can say whether the file beside it is that of the others
     ghost gives = { λ late j. (late.run ≤ j.saved.boot) × (j.broken ≡ false) };
 
     fn open(&mut self) -> Result<FileJournal<TowerBody>, Cause> {

@@ -3,8 +3,8 @@ use mio::net::TcpStream;
 use std::alloc::Global;
 use std::net::Shutdown;
 
-/// How long a connection is held that is closed, in milliseconds: what its other side still sends
-/// would else be answered by a reset, which can overtake the last line that it was sent.
+/// How long a closed connection is held, in milliseconds: otherwise what its other side still sends
+/// would be answered by a reset, which can overtake the last line that it was sent.
 const HELD: u64 = 1_000;
 
 /// How many such connections are held: few, since each takes a file.
@@ -13,7 +13,7 @@ const MOST_HELD: usize = 64;
 /// A connection that is held until this moment, in milliseconds.
 #[derive(Drop)]
 struct Leaver {
-    /// It is held for its drop alone, which closes it.
+    /// It is held only for its drop, which closes it.
     #[allow(dead_code)]
     stream: TcpStream,
     until: u64,
@@ -32,7 +32,7 @@ impl Leaving {
         }
     }
 
-    /// Nothing more is written to a connection. Where it can't be held it is gone at once.
+    /// Nothing more is written to a connection. If it can't be held it is gone at once.
     pub fn add(&mut self, ms: u64, stream: TcpStream) {
         let _ = stream.shutdown(Shutdown::Write);
         if self.leavers.len() >= MOST_HELD {
@@ -42,7 +42,7 @@ impl Leaving {
         let _ = self.leavers.push(Leaver { stream, until });
     }
 
-    /// Those whose moment is over are gone.
+    /// Those whose time is over are gone.
     pub fn tick(&mut self, ms: u64) {
         self.leavers.retain(|leaver| ms < leaver.until);
     }

@@ -1,8 +1,9 @@
-//! `bouncer run`: the nodes of a bouncer, their clients and the server, until standard input ends. One loop waits for
-//! all sockets, and never for one alone; beside it stand what the configuration says, the journals, and what is told.
-//! Stands under bouncer_app. There are as many nodes as the configuration has addresses, node N over the Nth journal.
-//! What the driver orders waits for its client or for the server, or is told to its node, once and in order; what waits
-//! for a connection is the rest of what was written. No contract says what else the loop does.
+//! `bouncer run`: the nodes of a bouncer, their clients and the server, until standard input ends.
+//! One loop waits for all sockets, never for one alone. Beside it are what the configuration says,
+//! the journals, and what is logged. Used by bouncer_app. There are as many nodes as the
+//! configuration has addresses, node N over the Nth journal. What the driver orders waits for its
+//! client or for the server, or is sent to its node, once and in order; what waits for a connection
+//! is the rest of what was written. No contract says what else the loop does.
 #![tactic(auto)]
 
 mod absent;

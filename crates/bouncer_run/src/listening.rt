@@ -11,8 +11,8 @@ use bouncer_config::{Address, Config};
 use driver::Now;
 use std::fmt;
 
-/// Each node listens at its address. Where one can't, a line was written to standard error that
-/// names the address and says why.
+/// Each node listens at its address. If one can't, a line was written to standard error that names
+/// the address and says why.
 pub fn listen_all<R: System>(
     rt: &R,
     config: &Config,

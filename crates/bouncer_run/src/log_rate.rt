@@ -13,7 +13,7 @@ const HOUR: u64 = 3_600;
 /// A day, in seconds.
 pub const DAY: u64 = 86_400;
 
-/// A day has 24 hours, and so many and one more marks an hour apart.
+/// A day has 24 hours, so a day has 25 marks an hour apart.
 const MOST_MARKS: usize = 25;
 
 /// How many entries a log had at a moment.
@@ -24,7 +24,7 @@ pub struct Mark {
 }
 
 impl Mark {
-    /// Whether so many seconds have passed since, at this moment.
+    /// Whether this many seconds have passed since, at this moment.
     fn is_older(&self, seconds: u64, at: Moment) -> bool
         requires { seconds ≤ 86400 }
         ensures { result ≡ is_older seconds at self.now }
@@ -32,7 +32,7 @@ impl Mark {
         self.at.seconds() + seconds <= at.seconds()
     }
 
-    /// Whether the clock went back since, or the log became shorter, as a new mark tells.
+    /// Whether the clock went back since, or the log became shorter, as a new mark shows.
     fn is_undone(&self, new: &Mark) -> bool
         ensures { result ≡ is_undone self.now new.now }
     {
@@ -40,7 +40,7 @@ impl Mark {
     }
 }
 
-/// How long a log was in the last day: marks an hour apart, of which the oldest is about a day old.
+/// How long a log was during the last day: marks an hour apart, the oldest about a day old.
 #[derive(Drop)]
 pub struct LogRate {
     /// The newest first.
@@ -69,7 +69,7 @@ impl LogRate {
         }
     }
 
-    /// What is known is this mark, if anything.
+    /// This mark is known, if there is one.
     #[tactic(auto, using(crate::proofs::Marks::one))]
     pub fn of(alloc: Global, mark: Option<Mark>) -> Result<LogRate, AllocError>
         ensures { IfOk result (λ r. r ≡ option_to_list mark) }
@@ -81,8 +81,8 @@ impl LogRate {
         Ok(LogRate { marks })
     }
 
-    /// How many entries the log has at this moment is marked, where the newest mark is an hour old. Where the clock
-    /// went back, or the log is shorter than it was, the marks begin anew.
+    /// A mark is made of how many entries the log has at this moment, if the newest mark is an hour
+    /// old. If the clock went back, or the log is shorter than it was, the marks begin anew.
     #[tactic(auto, using(crate::proofs::Marks::one, crate::proofs::Marks::one_more))]
     pub fn note(&mut self, at: Moment, entries: u64) -> Result<(), AllocError>
         ensures ok { OnOk result (self.new ≡ noted (record { at = at; entries = entries }) self.old) }
@@ -103,8 +103,8 @@ impl LogRate {
         add(&mut self.marks, new)
     }
 
-    /// In how many days a log of so many entries is full at this moment, at the rate since the oldest mark. `None`
-    /// where that is less than an hour ago, or the log did not grow.
+    /// In how many days a log of this many entries is full at this moment, at the rate since the
+    /// oldest mark. `None` if that is less than an hour ago, or the log did not grow.
     #[tactic(auto, using(crate::proofs::Marks::few_seconds, crate::proofs::Marks::leaves_room))]
     pub fn days_left(&self, at: Moment, entries: u64) -> Option<u64>
         ensures value { result ≡ days_left self.now at entries }
@@ -121,7 +121,7 @@ impl LogRate {
     }
 }
 
-/// A new mark stands before these, of which those are kept up to the first that is a day old.
+/// A new mark is put before these, of which those up to the first that is a day old are kept.
 fn add(marks: &mut Vec<Mark>, new: Mark) -> Result<(), AllocError>
     ensures ok { OnOk result (marks.new.items ≡ new ∷ up_to_day new.at marks.old.items) }
     ensures err { OnErr result (marks.new.items ≡ marks.old.items) }

@@ -1,4 +1,4 @@
-//! What the loop tells an operator, and clients.
+//! What the loop logs, and what it sends to clients.
 ghost use Rattle.std.specs.Prelude.{◌≡◌, []};
 ghost use Rattle.bouncer_run.specs.Deliveries.{AreDone};
 
@@ -16,8 +16,8 @@ use request_once::Body;
 use std::alloc::{AllocError, Global};
 use wire_bytes::Copied;
 
-/// An operator is told by which name a client attached, where this asks that it is attached by one. It may be asked
-/// again, and is told once.
+/// Logs the name by which a client attached, if this asks that it is attached by one. It may be
+/// asked again, and is logged once.
 pub fn tell_name<O: Operator>(
     now: &Now,
     sockets: &mut Sockets,
@@ -39,7 +39,7 @@ pub fn tell_name<O: Operator>(
     Ok(())
 }
 
-/// An operator is told of news, and so are clients whom they concern.
+/// News are logged, and go to the clients whom they concern.
 pub fn tell_news<O: Operator>(
     now: &Now,
     driver: &mut Driver,
@@ -66,7 +66,7 @@ pub fn tell_news<O: Operator>(
     Ok(())
 }
 
-/// An operator and clients are told that a channel is not joined, for the reason of this number.
+/// That a channel is not joined, for the reason of this number, is logged and sent to clients.
 fn tell_absent<O: Operator>(
     now: &Now,
     driver: &mut Driver,
@@ -83,7 +83,7 @@ fn tell_absent<O: Operator>(
     Ok(())
 }
 
-/// An operator is told of news, and where a client is that came with a wrong password.
+/// Logs news, and the address of a client that came with a wrong password.
 fn tell_operator<O: Operator>(now: &Now, sockets: &Sockets, operator: &mut O, news: News) {
     if let News::WrongPassword(origin) = news {
         if let Some(wrong) = sockets.wrong_password(origin.client()) {
@@ -93,7 +93,7 @@ fn tell_operator<O: Operator>(now: &Now, sockets: &Sockets, operator: &mut O, ne
     operator.hear(now, news);
 }
 
-/// Clients are told that the server is there, or gone.
+/// Clients get a notice that the server is connected, or gone.
 fn tell_clients(alloc: Global, driver: &mut Driver, news: &News) -> Result<(), LoopFault> {
     match news {
         News::Opened(_) => driver.notice(b"Connected to the server.")?,
@@ -103,7 +103,7 @@ fn tell_clients(alloc: Global, driver: &mut Driver, news: &News) -> Result<(), L
     Ok(())
 }
 
-/// An operator is told what happened at the sockets.
+/// What happened at the sockets is logged.
 pub fn tell_edge<O: Operator>(now: &Now, sockets: &mut Sockets, operator: &mut O) {
     for news in sockets.news() {
         operator.hear_edge(now, news);

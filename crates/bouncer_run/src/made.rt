@@ -1,4 +1,4 @@
-//! What a start makes, which is gone again where the start is refused.
+//! What a start makes, which is removed again if the start is refused.
 ghost use Rattle.std.specs.Prelude.{◌≡◌, ◌++◌, ◌∷◌, [], OnOk};
 
 use crate::system::System;
@@ -6,8 +6,8 @@ use file_disk::MadeFile;
 use std::alloc::{AllocError, Global};
 use std::fs;
 
-/// The folders and the files that a start made. The files are held open and locked, so that nobody else saves
-/// anything in them.
+/// The folders and files that a start made. The files are held open and locked, so that nobody else
+/// saves anything in them.
 #[derive(Drop)]
 pub struct Made {
     folders: Vec<String>,
@@ -49,8 +49,8 @@ impl Made {
         self.files.append(&mut files)
     }
 
-    /// The start is refused: what it made is gone. What somebody else put in a folder stays, and so does the
-    /// folder then.
+    /// The start is refused: what it made is removed. What somebody else put in a folder stays, and
+    /// so does the folder.
     pub fn take_back<R: System>(&self, rt: &R) {
         for file in &self.files {
             let _ = file.remove(rt);

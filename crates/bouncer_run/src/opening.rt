@@ -20,8 +20,8 @@ use stable_store::StoreFault;
 use std::alloc::AllocError;
 use std::io::ErrorKind;
 
-/// A journal for each of so many nodes in these folders but for those that are absent, node 1's first, none of which is
-/// older than their logs tell.
+/// A journal for each of this many nodes in these folders, except the absent ones, node 1's first;
+/// none is older than their logs show.
 pub fn open_all<R: System>(
     rt: &R,
     folders: &[String],
@@ -71,8 +71,8 @@ fn open<R: System>(
     }
 }
 
-/// The journal in the file of a path. What the log of the first of these journals that is open has too is one value in
-/// memory with it.
+/// The journal in the file of a path. What the log of the first open journal of these also has is
+/// shared with it in memory.
 fn open_beside<R: System>(
     rt: &R,
     path: &str,
@@ -96,8 +96,8 @@ fn first_open(opened: &[Option<FileJournal<TowerBody>>]) -> Option<&FileJournal<
     }
 }
 
-/// The journal in the file of a path. What another log has too is one value in memory with it. A file that is made is
-/// noted.
+/// The journal in the file of a path. What another log also has is shared with it in memory. A file
+/// that is made is noted.
 fn open_at<R: System>(
     rt: &R,
     path: &str,
@@ -129,9 +129,9 @@ pub enum Unopened {
     Absent(Absent),
     /// The journal of this path is refused.
     Journal(String, OpenFault),
-    /// The journal of this path is older than the others' logs tell.
+    /// The journal of this path is older than the others' logs show.
     Older(String),
-    /// The store is not as it is to be, which was told.
+    /// The store is not as it must be, which was logged.
     Told,
     Memory,
 }
@@ -146,7 +146,8 @@ impl Unopened {
         }
     }
 
-    /// What it is to the program. A line was written to standard error that names the file, and says why.
+    /// What it means to the program. A line was written to standard error that names the file and
+    /// says why.
     pub fn told<R: System>(&self, rt: &R) -> RunFault
         ensures { IsOrMemory RunFault.Store result }
     {
@@ -193,7 +194,7 @@ impl From<AllocError> for Unopened {
     }
 }
 
-/// What it is to the program that a journal is not opened.
+/// What it means to the program that a journal is not opened.
 fn fault_of(fault: &OpenFault) -> RunFault
     ensures kind { IsFaultOfOpening fault.now result }
     ensures either { IsOrMemory RunFault.Store result }

@@ -9,11 +9,11 @@ use crate::sockets::Sockets;
 use driver::{Driver, Ending, Now};
 use std::net::Net;
 
-/// What the server is told at the end.
+/// What the server is sent at the end.
 const QUIT: &[u8] = b"QUIT\r\n";
 
 impl Sockets {
-    /// Bytes go to a client. It is gone where too much would wait for it.
+    /// Bytes go to a client. It is gone if too much would wait for it.
     pub fn write(
         &mut self,
         now: &Now,
@@ -35,7 +35,7 @@ impl Sockets {
         self.drop_client(now, driver, number)
     }
 
-    /// The server is connected to, or its connection is gone.
+    /// The server is connected, or its connection is gone.
     pub fn reach(&mut self, net: &impl Net, now: &Now, driver: &mut Driver) -> Result<(), LoopFault>
         ensures clients { self.new.clients ≡ self.old.clients }
         ensures server { OnOk result (Awaits (Some []) self.new.server) }
@@ -60,7 +60,7 @@ impl Sockets {
         self.drop_server(now, driver, Ending::Lost)
     }
 
-    /// The connection to the server is closed, behind what was sent, as far as it takes that at once.
+    /// The connection to the server is closed after what was sent, as far as it takes that at once.
     pub fn disconnect(&mut self, now: &Now)
         ensures clients { self.new.clients ≡ self.old.clients }
         ensures gone { self.new.server ≡ None }
@@ -71,7 +71,7 @@ impl Sockets {
         self.server = None;
     }
 
-    /// The bouncer ends: the server is told, as far as it takes that at once.
+    /// The bouncer ends: the server is sent QUIT, as far as it takes that at once.
     pub fn finish(&mut self, now: &Now) {
         if let Some(connection) = &mut self.server {
             let _ = connection.write(QUIT);

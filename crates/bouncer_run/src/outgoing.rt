@@ -23,7 +23,7 @@ pub enum Sent {
 #[derive(Drop)]
 pub struct Outgoing {
     bytes: Vec<u8>,
-    /// How many of the bytes, the first ones, were written.
+    /// How many of the first bytes were written.
     written: usize,
 }
 
@@ -62,7 +62,7 @@ impl Outgoing {
         self.len() == 0
     }
 
-    /// More bytes wait, behind those that do.
+    /// More bytes wait, after those that do.
     pub fn push(&mut self, bytes: &[u8]) -> Result<(), AllocError>
         ensures ok { OnOk result (self.new ≡ self.old ++ bytes.now) }
         ensures err { OnErr result (self.new ≡ self.old) }
@@ -92,7 +92,7 @@ impl Outgoing {
         Sent::Some
     }
 
-    /// One write of what waits. How much was taken.
+    /// One write of what waits. Returns how much was taken.
     #[tactic(auto, using(crate::proofs::Movements::moves_taken, crate::proofs::Movements::stays))]
     fn write_once<W: Write>(&mut self, writer: &mut W) -> Result<usize, ErrorKind>
         ensures { Moves self.old self.new (W.contents writer.old) (W.contents writer.new) }
@@ -113,7 +113,7 @@ impl Outgoing {
         &self.bytes[self.written..]
     }
 
-    /// So many bytes were written.
+    /// This many bytes were written.
     fn forget(&mut self, count: usize)
         requires { count ≤ length self.old }
         ensures { self.new ≡ drop count self.old }
@@ -122,8 +122,8 @@ impl Outgoing {
         self.make_room();
     }
 
-    /// Forgets what was written, once it is no less than what waits: so moving costs no more than
-    /// writing did.
+    /// Forgets what was written once it is no less than what waits, so that moving costs no more
+    /// than writing did.
     fn make_room(&mut self)
         ensures { self.new ≡ self.old }
     {

@@ -1,4 +1,4 @@
-//! What leaves a node, told to the loop.
+//! What leaves a node, sent to the loop.
 ghost use Rattle.std.specs.Prelude.{◌≡◌, IfErr, OnOk, ⊤};
 
 use crate::inlet::{Inlet, LoopMessage};
@@ -7,7 +7,7 @@ use node_notes::Report;
 use node_threads::Outlet;
 use std::sync::Wait;
 
-/// Tells the loop what leaves a node.
+/// Sends to the loop what leaves a node.
 #[derive(Drop)]
 pub struct LoopOutlet {
     pub inlet: Inlet,
@@ -16,7 +16,7 @@ pub struct LoopOutlet {
 impl Outlet<TowerEffect> for LoopOutlet {
     ghost use Rattle.std.specs.Prelude.{⊤};
 
-    // what lies in a channel, no clause says
+    // no clause says what is in a channel
     ghost has_taken = { λ _ _ _. ⊤ };
 
     fn report<R: Wait>(

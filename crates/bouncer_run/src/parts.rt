@@ -25,8 +25,8 @@ pub type NodeStore<R> = PartStore<FileJournal<TowerBody>, LateJournal<R>>;
 /// What a node of a bouncer runs with.
 pub type BouncerPart<R, U> = Part<NodeStore<R>, U, LoopOutlet>;
 
-/// What each node starts over, node 1's first: its journal, or what opens it late where the store says this of itself.
-/// Why that one failed is noted where these errors are.
+/// What each node starts over, node 1's first: its journal, or what opens it late if the store says
+/// this about itself. Why that one failed is noted in these errors.
 pub fn stores<R: System>(
     rt: &R,
     config: &Config,
@@ -52,7 +52,7 @@ pub fn stores<R: System>(
     Ok(stores)
 }
 
-/// The last run of each node of which the logs of these journals tell.
+/// The last run of each node that the logs of these journals show.
 fn runs_told(
     alloc: Global,
     opened: &[Option<FileJournal<TowerBody>>],
@@ -69,7 +69,8 @@ fn runs_told(
     Ok(runs)
 }
 
-/// What a node starts over, of which this run was told last: this journal, or what opens it late in this folder.
+/// What a node starts over, if this run was its last that the logs show: this journal, or what
+/// opens it late in this folder.
 fn store_of<R: System>(
     rt: &R,
     folder: &str,
@@ -92,8 +93,8 @@ fn store_of<R: System>(
     Ok(PartStore::Late(late))
 }
 
-/// What each node runs with, node 1's first: what it starts over, and ways to tell the loop. Where its
-/// lines go is made by `hands`.
+/// What each node runs with, node 1's first: what it starts over, and ways to send to the loop.
+/// `hands` makes what its lines go to.
 pub fn parts<R: System, U: Upstream, F: Fn(R, Global, NodeId, Inlet) -> U>(
     rt: &R,
     inlets: &Inlets,

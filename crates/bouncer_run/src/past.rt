@@ -1,16 +1,15 @@
-//! Lines that were told, as clauses see them.
+//! Lines that were sent, as clauses see them.
 ghost use Rattle.std.specs.Prelude.{◌≡◌, ◌++◌, ◌∷◌, []};
 ghost use Rattle.bouncer_run.specs.Pasts.{lines_of};
 
 use irc_line::Line;
 use std::snapshot::Snapshot;
 
-/// Lines with their numbers, in the order in which they were told, of which a program keeps
-/// nothing.
+/// Lines with their numbers, in the order in which they were sent; a program keeps nothing of them.
 #[derive(Drop)]
 pub enum Past {
     Nothing,
-    /// One more line, behind those of a past.
+    /// One more line, after those of a past.
     Told(u64, Snapshot<Line>, Snapshot<Past>),
 }
 

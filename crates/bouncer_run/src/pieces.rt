@@ -1,4 +1,4 @@
-//! The next piece of what came, where it is to be read: what it would bring may have to wait.
+//! The next piece of what came, if it is to be read: what it would bring may have to wait.
 ghost use Rattle.std.specs.Prelude.{◌≡◌, not, true, IsTrue};
 ghost use Rattle.driver.specs.Links.{node_of};
 ghost use Rattle.driver.specs.Rosters.{client_at, is_leaving_in, is_read_for};
@@ -9,16 +9,16 @@ use crate::connection::Got;
 use crate::sockets::Sockets;
 use driver::{Driver, Ending};
 
-/// How many bytes are read before it is asked again whether more are to be read: few, since each
-/// line of them is a note that waits.
+/// How many bytes are read before the next check whether more are to be read: few, since each line
+/// of them is a note that waits.
 pub const PIECE: usize = 512;
 
 /// How many pieces of one connection are read before the others are looked at.
 pub const PIECES: usize = 16;
 
 impl Sockets {
-    /// The next piece of what a client sent. It is read before it registered, then where the driver
-    /// reads the client, and nowhere else: of a client that leaves nothing is.
+    /// The next piece of what a client sent. It is read before it registered, then while the driver
+    /// reads the client, and at no other time: nothing is read from a client that leaves.
     pub fn next_of_client(&mut self, driver: &Driver, number: u64, piece: &mut [u8]) -> Got
         ensures later { IsReadNow (not (is_later result)) driver.now.orders driver.now.monitors
             (client_at driver.now.clients number) }
@@ -38,8 +38,7 @@ impl Sockets {
         }
     }
 
-    /// The next piece of what the server sent. It is read where the driver reads the server, and
-    /// nowhere else.
+    /// The next piece of what the server sent. It is read only while the driver reads the server.
     pub fn next_of_server(&mut self, driver: &Driver, piece: &mut [u8]) -> Got
         ensures later { is_later result ≡ not (is_read_for driver.now.orders driver.now.monitors
             (node_of driver.now.link.stage)) }
@@ -55,9 +54,9 @@ impl Sockets {
     }
 }
 
-/// Whether a client has its turn at this moment: before it registered in any case, since what it sends
-/// until then asks for nothing of its node, and its time to register passes; and where it leaves, since nothing is read
-/// of it then.
+/// Whether a client has its turn at this moment: always before it registered, since what it sends
+/// until then asks its node for nothing, and its time to register passes; and when it leaves, since
+/// nothing is read from it then.
 pub fn reads_client(driver: &Driver, number: u64) -> bool
     ensures { IsReadNow result driver.now.orders driver.now.monitors
         (client_at driver.now.clients number) }

@@ -43,11 +43,11 @@ use std::thread::JoinHandle;
 /// How often the loop looks at the clock, in milliseconds.
 const TICK: u64 = 20;
 
-/// Runs the bouncer that the configuration in the file of this path says, until the input ends;
-/// then its record is written, if the configuration names a file. Where it does not run, or ended
-/// before it was to, the fault is the first of its kinds, in the order of `RunFault`, and want of
-/// memory where it was met. Where it is refused before clients are served, what it made is gone. What
-/// tells the loop a node's lines for the server is made by `hands`.
+/// Runs the bouncer of the configuration in the file of this path until the input ends; then its
+/// record is written, if the configuration names a file. If it does not run, or ends early, the
+/// fault is the first of its kinds, in the order of `RunFault`, and out of memory if memory ran
+/// out. If it is refused before clients are served, what it made is gone. `hands` makes what sends
+/// a node's lines for the server to the loop.
 pub fn run<
     R: System,
     I: Read + AsRawFd + Drop + Send + 'static,
@@ -155,8 +155,9 @@ impl<R: System, U: Upstream + Send + 'static> Started<R, U> {
         }
     }
 
-    /// Serves clients and the server until the input ends. What the nodes did, node 1's first. Where the journals do not
-    /// lie at their paths any more, a line was written to standard error that names the folder, and says what to do.
+    /// Serves clients and the server until the input ends. Returns what the nodes did, node 1's
+    /// first. If the journals are no longer at their paths, a line was written to standard error
+    /// that names the folder and says what to do.
     fn serve(self, rt: &R, config: &Config) -> Result<Vec<TowerRecord>, RunFault> {
         let Started {
             edge,
@@ -191,7 +192,7 @@ impl<R: System, U: Upstream + Send + 'static> Started<R, U> {
     }
 }
 
-/// The sockets, and what the loop is told by other threads.
+/// The sockets, and what other threads send to the loop.
 #[derive(Drop)]
 struct Edge {
     sockets: Sockets,
@@ -200,7 +201,7 @@ struct Edge {
 }
 
 impl Edge {
-    /// No node listens yet, and nothing was told.
+    /// No node listens yet, and nothing was logged.
     fn new<R: System>(rt: &R, config: &Config) -> Result<Edge, RunFault>
         ensures { IfErr result (IsOrMemory RunFault.Socket) }
     {
@@ -220,8 +221,8 @@ impl Edge {
         })
     }
 
-    /// Listens, but for the nodes that are absent, and reads the input. `Write` is told at once, of a record that could
-    /// not be written at the end.
+    /// Listens, except for the nodes that are absent, and reads the input. `Write` is returned at
+    /// once if the record could not be written at the end.
     fn open<R: System, I: Read + Drop + Send + 'static>(
         &mut self,
         rt: &R,
@@ -249,7 +250,7 @@ impl Edge {
         Ok((driver, reader))
     }
 
-    /// The thread that reads the input, where there is one to be read.
+    /// The thread that reads the input, if there is one to be read.
     fn watch<R: System, I: Read + Drop + Send + 'static>(
         &self,
         rt: &R,
@@ -267,7 +268,7 @@ impl Edge {
     }
 }
 
-/// What it is to the program that the sockets or the clock fail.
+/// What it means to the program that the sockets or the clock fail.
 fn socket_fault(error: io::Error) -> RunFault
     ensures { IsOrMemory RunFault.Socket result }
 {

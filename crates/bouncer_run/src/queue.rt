@@ -1,4 +1,4 @@
-//! Connections that are ready to be read, in the order in which they came to be.
+//! Connections that are ready to be read, in the order in which they became ready.
 ghost use Rattle.std.specs.Prelude.{◌≡◌, [], false, length, IfNone, IfSome, OnErr, OnOk};
 ghost use Rattle.std.specs.List.{All};
 ghost use Rattle.bouncer_run.specs.Turns.{IsTurn, MayBeRead, TakesFirst, joined};
@@ -10,7 +10,8 @@ use std::alloc::{AllocError, Global};
 use std::marker::Model;
 
 /// Connections that are ready to be read, by their tokens: the one that has waited longest is the
-/// first. The system tells of what came once, so who can't be read yet is kept in mind here.
+/// first. The system reports what came only once, so a connection that can't be read yet is kept
+/// here.
 #[derive(Drop)]
 pub struct Queue {
     tokens: Vec<usize>,
@@ -41,7 +42,7 @@ impl Queue {
         self.tokens.len()
     }
 
-    /// A connection waits behind all that do. One that waits already keeps its place.
+    /// A connection waits after all that do. One that waits already keeps its place.
     pub fn join(&mut self, token: usize) -> Result<(), AllocError>
         ensures ok { OnOk result (self.new ≡ joined token self.old) }
         ensures err { OnErr result (self.new ≡ self.old) }
@@ -53,7 +54,7 @@ impl Queue {
         Ok(())
     }
 
-    /// The first that may be read at this moment waits no more; all others keep their places.
+    /// The first that may be read at this moment no longer waits; all others keep their places.
     #[tactic(auto, using(crate::proofs::Places::takes_first))]
     pub fn next(&mut self, driver: &Driver) -> Option<usize>
         ensures turn { IfSome result (λ token. TakesFirst driver.now token self.old self.new) }

@@ -1,15 +1,15 @@
-//! News of which no more is told than somebody reads.
+//! News that are logged only as often as somebody would read them.
 ghost use Rattle.std.specs.Prelude.{◌≡◌};
 ghost use Rattle.bouncer_run.specs.Rations.{may_tell, new_ration, taken};
 
-/// In a minute so much of one kind is told.
-// whoever connects again and again would fill the disk that the log is on
+/// This much of one kind is logged in a minute.
+// a client that connects again and again would fill the disk that the log is on
 const MOST_TOLD: u64 = 10;
 
 /// In milliseconds.
 const MINUTE: u64 = 60_000;
 
-/// How much of one kind of news was told in a minute.
+/// How much of one kind of news was logged in a minute.
 #[derive(Clone, Copy)]
 pub struct Ration {
     /// When the minute began.
@@ -18,14 +18,14 @@ pub struct Ration {
 }
 
 impl Ration {
-    /// Nothing was told.
+    /// Nothing was logged.
     pub fn new() -> Ration
         ensures { result ≡ new_ration }
     {
         Ration { since: 0, told: 0 }
     }
 
-    /// One more of them happened. Whether it is told.
+    /// One more of them happened. Returns whether it is logged.
     pub fn take(&mut self, ms: u64) -> bool
         ensures told { result ≡ may_tell ms self.old }
         ensures left { self.new ≡ taken ms self.old }

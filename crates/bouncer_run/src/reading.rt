@@ -22,7 +22,7 @@ pub enum Unread {
 }
 
 impl Unread {
-    /// What it is to the program. Want of memory is that, also where a text could be no
+    /// What it means to the program. Out of memory is that, also if a text could be no
     /// configuration.
     fn fault(&self) -> RunFault
         ensures { result ≡ fault_of_unread self.now }
@@ -37,9 +37,9 @@ impl Unread {
     }
 }
 
-/// The configuration in the file of this path, its own paths by the folder of that file. Where there
-/// is none, and it is not for want of memory, a line was written to standard error that names the file
-/// and says why.
+/// The configuration in the file of this path; its own paths are relative to the folder of that
+/// file. If there is none, and not for lack of memory, a line was written to standard error that
+/// names the file and says why.
 pub fn read<R: Runtime<File = File> + AllocGlobal>(rt: &R, path: &str) -> Result<Config, RunFault>
     ensures said { IfOk result (IsSaidIn path.now) }
     ensures folders { IfOk result (λ config. 1 ≤ length config.store.items) }
@@ -66,8 +66,8 @@ pub fn read<R: Runtime<File = File> + AllocGlobal>(rt: &R, path: &str) -> Result
     }
 }
 
-/// Refuses a configuration in whose `on_connect` stands what is no line. Where it does, a line was written to standard
-/// error that says so, without the text, in which a password may stand.
+/// Refuses a configuration whose `on_connect` has a text that is no line. If it does, a line was
+/// written to standard error that says so, without the text, which may have a password in it.
 fn hold_lines<R: Runtime + AllocGlobal>(rt: &R, path: &str, config: &Config) -> Result<(), RunFault>
     ensures { IfErr result IsUnreadFault }
 {
@@ -80,7 +80,7 @@ fn hold_lines<R: Runtime + AllocGlobal>(rt: &R, path: &str, config: &Config) -> 
     Err(RunFault::Config)
 }
 
-/// The configuration that the bytes of a reader say, all of them.
+/// The configuration that all the bytes of a reader say.
 pub fn read_config<F: Read>(alloc: Global, file: &mut F) -> Result<Config, Unread>
     ensures ok { IfOk result (IsConfigOf (F.remaining file.old)) }
     ensures err { IfErr result (IsUnread (F.remaining file.old)) }

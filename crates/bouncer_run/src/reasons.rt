@@ -3,10 +3,10 @@ use crate::edge_news::EdgeNews;
 use std::alloc::{AllocError, Global};
 use std::str::from_utf8;
 
-/// The most bytes of a line (RFC 2812, 2.3). What is longer is told no further.
+/// The most bytes of a line (RFC 2812, 2.3). A longer line is logged only up to here.
 const LONGEST: usize = 512;
 
-/// How much of one connection is told: a server that goes on would else fill the log.
+/// How much is logged of one connection: otherwise a server that goes on would fill the log.
 const MOST_TOLD: u8 = 8;
 
 /// The replies by which a server refuses a nick, a password or a client, before its welcome: a bad
@@ -19,7 +19,7 @@ const ERROR: &[u8] = b"ERROR";
 /// The reply by which a server takes a session.
 const WELCOME: &[u8] = b"001";
 
-/// Listens to what a server says, for why it refuses.
+/// Listens to what a server says, for the reason why it refuses.
 #[derive(Drop)]
 pub struct Reasons {
     alloc: Global,
@@ -40,7 +40,7 @@ impl Reasons {
         }
     }
 
-    /// Bytes came, however they are cut. What is to be told of the lines that they end.
+    /// Bytes came, in pieces of any size. Returns what is to be logged of the lines that they end.
     pub fn hear(&mut self, bytes: &[u8]) -> Result<Vec<EdgeNews>, AllocError> {
         let mut news = Vec::new(self.alloc);
         for (index, part) in bytes.split(|byte| *byte == b'\n').enumerate() {
@@ -59,7 +59,7 @@ impl Reasons {
         self.line.extend_from_slice(part)
     }
 
-    /// A line ends. It is to be told where it says why a session is refused.
+    /// A line ends. It is to be logged if it says why a session is refused.
     fn end(&mut self, news: &mut Vec<EdgeNews>) -> Result<(), AllocError> {
         if self.is_refusal() && self.told < MOST_TOLD {
             self.told += 1;
@@ -78,7 +78,7 @@ impl Reasons {
     }
 }
 
-/// The first word of a line, behind who says it. More than one space may stand between two words.
+/// The first word of a line, after its prefix. More than one space may be between two words.
 fn command_of(line: &[u8]) -> &[u8] {
     let mut words = line
         .split(|byte| *byte == b' ' || *byte == b'\r')
@@ -90,7 +90,7 @@ fn command_of(line: &[u8]) -> &[u8] {
     words.next().unwrap_or(b"")
 }
 
-/// A line as a text of which each control character is left out.
+/// A line as a text without its control characters.
 pub fn shown(alloc: Global, line: &[u8]) -> Result<String, AllocError> {
     let mut text = String::new(alloc);
     for letter in from_utf8(line).unwrap_or("a line that is no text").chars() {

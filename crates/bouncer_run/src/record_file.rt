@@ -18,14 +18,14 @@ use std::fs::OpenOptions;
 use std::io::{self, Write};
 use std::os::unix::fs::OpenOptionsExt;
 
-/// Nobody but its owner reads what people said.
+/// Only its owner may read what people said.
 const OWNERS: u32 = 0o600;
 
 /// What a node of a bouncer did.
 pub type TowerRecord = NodeRecord<TowerBody, WireLine, Name, TowerEffect, Shown>;
 
-/// The record of a run is written to the file that the configuration names, if it names one. Where
-/// that can't be, a line was written to standard error that says why.
+/// The record of a run is written to the file that the configuration names, if it names one. If
+/// that can't be done, a line was written to standard error that says why.
 pub fn write_record<R: System>(
     rt: &R,
     config: Config,
@@ -42,9 +42,9 @@ pub fn write_record<R: System>(
     }
 }
 
-/// The file that the configuration names for the record, if it names one, is made where it is not there, and
-/// stays as it is where it is: so what could never be written is told at the start. Where that can't be, a
-/// line was written to standard error that says why.
+/// The file that the configuration names for the record, if it names one, is made if it is not
+/// there, and stays as it is if it is: so a file that could never be written is reported at the
+/// start. If that can't be done, a line was written to standard error that says why.
 pub fn try_record<R: System>(rt: &R, config: &Config) -> Result<(), RunFault>
     ensures unnamed { config.now.record ≡ None → IsOk result }
     ensures fault { IfErr result (IsOrMemory RunFault.Write) }

@@ -1,4 +1,4 @@
-//! Why a bouncer does not run, or ended before it was to.
+//! Why a bouncer does not run, or ended early.
 ghost use Rattle.std.specs.Prelude.{◌≡◌, if◌then◌else◌};
 ghost use Rattle.std.specs.IoError.{error_kind};
 ghost use Rattle.bouncer_run.specs.Faults.{IsFaultOfError, IsOrMemory, fault_of_loop};
@@ -11,7 +11,7 @@ use std::io::ErrorKind;
 use thiserror::Error;
 use whole_input::ReadFault;
 
-/// Why a bouncer does not run, or ended before it was to.
+/// Why a bouncer does not run, or ended early.
 #[derive(Clone, Copy, Debug, Drop, PartialEq, Eq, Error)]
 pub enum RunFault {
     /// The configuration could not be read.
@@ -24,7 +24,7 @@ pub enum RunFault {
     #[error("Config")]
     Config,
     /// The folder of the journals can't be made, a journal can't be made or adopted, a node does
-    /// not start over it, or the journals do not lie at their paths any more.
+    /// not start over it, or the journals are no longer at their paths.
     #[error("Store")]
     Store,
     /// A node can't listen at its address, or the sockets can't be waited for.
@@ -38,7 +38,7 @@ pub enum RunFault {
 }
 
 impl RunFault {
-    /// What an error of the system is: want of memory, where it is that, and else this fault.
+    /// What an error of the system is: out of memory, if it is that, and else this fault.
     pub fn of_error(error: &io::Error, otherwise: RunFault) -> RunFault
         ensures kind { IsFaultOfError (error_kind error.now) otherwise result }
         ensures either { IsOrMemory otherwise result }
@@ -50,8 +50,8 @@ impl RunFault {
         }
     }
 
-    /// What it is to the program that a folder of journals is not as it is to be: want of memory, where it is
-    /// that, and else the store.
+    /// What it means to the program that a folder of journals is not as it must be: out of memory,
+    /// if it is that, and else the store.
     pub fn of_store(is_memory: bool) -> RunFault
         ensures kind { result ≡ (if is_memory then Memory else Store) }
         ensures either { IsOrMemory Store result }
@@ -63,7 +63,7 @@ impl RunFault {
         }
     }
 
-    /// What it is to the program that the loop ended before it was to.
+    /// What it means to the program that the loop ended early.
     pub fn of_loop(fault: LoopFault) -> RunFault
         ensures { result ≡ fault_of_loop fault }
     {

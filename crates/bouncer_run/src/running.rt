@@ -32,9 +32,10 @@ pub struct Running<R: System, U: Upstream> {
 }
 
 impl<R: System, U: Upstream + Send + 'static> Running<R, U> {
-    /// Starts the nodes of a configuration, which keep their turns where it names a file for the record. A node whose
-    /// journal is opened late is down until then. Where one does not start, a line was written to standard error that
-    /// names its journal, and says why: what the system told as the journal failed, if it did.
+    /// Starts the nodes of a configuration, which keep their turns if it names a file for the
+    /// record. A node whose journal is opened late is down until then. If one does not start, a
+    /// line was written to standard error that names its journal and says why: what the system
+    /// reported as the journal failed, if it did.
     pub fn start(
         rt: &R,
         config: &Config,
@@ -72,7 +73,7 @@ impl<R: System, U: Upstream + Send + 'static> Running<R, U> {
         }
     }
 
-    /// Ends the nodes. What each of them did, node 1's first.
+    /// Ends the nodes. Returns what each of them did, node 1's first.
     pub fn stop(self, rt: &R) -> Vec<TowerRecord> {
         let Running { nodes } = self;
         nodes.stop(rt)
@@ -82,7 +83,7 @@ impl<R: System, U: Upstream + Send + 'static> Running<R, U> {
 impl<R: System, U: Upstream> Nodes for Running<R, U> {
     ghost use Rattle.std.specs.Prelude.{◌≡◌, ◌≤◌};
 
-    // what lies in a channel, no clause says
+    // no clause says what is in a channel
     ghost has_told = { λ old node _ new. (new ≡ old) × (node ≤ old.nodes.ether.size) };
 
     fn tell<W: Wait>(&mut self, rt: &W, node: NodeId, note: TowerNote) -> bool {

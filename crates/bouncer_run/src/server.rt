@@ -1,4 +1,4 @@
-//! What happens at the sockets, told to the driver.
+//! What happens at the sockets goes to the driver.
 ghost use Rattle.std.specs.Prelude.{◌≡◌, None};
 
 use crate::connection::{Got, Reading};
@@ -10,7 +10,7 @@ use mio::{Events, Interest, Token};
 use raft_log::NodeId;
 
 impl Sockets {
-    /// Whoever is ready lines up, and clients that come are taken.
+    /// Whoever is ready is queued, and clients that come are taken.
     pub fn serve_all(
         &mut self,
         now: &Now,
@@ -69,7 +69,7 @@ impl Sockets {
         Ok(Reading::Ended(Ending::Lost))
     }
 
-    /// An operator is told why the server refuses, where it says so.
+    /// Why the server refuses is logged, if it says so.
     fn tell_reasons(&mut self, bytes: &[u8]) -> Result<(), LoopFault> {
         for news in self.reasons.hear(bytes)? {
             self.tell(news)?;
@@ -77,7 +77,8 @@ impl Sockets {
         Ok(())
     }
 
-    /// More may wait at the server's connection than was read, so that it is told of again. Whether it is.
+    /// More may wait at the server's connection than was read, so it is queued again. Returns
+    /// whether it is.
     fn watch_server(&mut self) -> bool {
         let Some(connection) = &mut self.server else {
             return false;

@@ -12,8 +12,8 @@ use journal_folder::{FolderFault, Paths, RenewFault, Settled, finish_renewal};
 use raft_log::{GroupSize, NodeId};
 use std::fs;
 
-/// A renewal that was decided is finished. Where it was not finished before, a line was written that says where the
-/// old folders lie now.
+/// A renewal that was decided is finished. If it was not finished before, a line was written that
+/// says where the old folders are now.
 pub fn finish<R: System>(rt: &R, folders: &[String]) -> Result<(), RunFault>
     ensures { IfErr result (IsOrMemory RunFault.Store) }
 {
@@ -23,8 +23,8 @@ pub fn finish<R: System>(rt: &R, folders: &[String]) -> Result<(), RunFault>
     }
 }
 
-/// So without some nodes. Where the system does not say what lies beside their folders, and no renewed folder lies
-/// beside one of the others, there is nothing to finish for these.
+/// The same without some nodes. If the system does not say what is beside their folders, and no
+/// renewed folder is beside one of the others, there is nothing to finish for these.
 pub fn finish_without<R: System>(
     rt: &R,
     folders: &[String],
@@ -40,7 +40,7 @@ pub fn finish_without<R: System>(
     }
 }
 
-/// A renewal that was decided is finished, which is told.
+/// A renewal that was decided is finished, which is logged.
 fn finish_all<R: System>(rt: &R, folders: &[String]) -> Result<(), FolderFault> {
     if let Some(old) = finish_renewal(rt, folders)? {
         for one in &old.folders {
@@ -50,7 +50,8 @@ fn finish_all<R: System>(rt: &R, folders: &[String]) -> Result<(), FolderFault> 
     Ok(())
 }
 
-/// A line is written that says why a renewal is not finished. What that is to the program.
+/// A line is written that says why a renewal is not finished. Returns what that means to the
+/// program.
 fn told<R: System>(rt: &R, fault: &FolderFault) -> RunFault
     ensures { IsOrMemory RunFault.Store result }
 {
@@ -58,7 +59,7 @@ fn told<R: System>(rt: &R, fault: &FolderFault) -> RunFault
     RunFault::of_store(fault.is_memory())
 }
 
-/// Whether no renewed folder lies beside that of any node but those that are absent, as the system says.
+/// Whether no renewed folder is beside that of any node except the absent ones, as the system says.
 fn are_in_place<R: System>(rt: &R, folders: &[String], size: GroupSize, absent: &[Absent]) -> bool {
     for index in 0..size.value() {
         let node = NodeId::new(index + 1);
@@ -69,7 +70,7 @@ fn are_in_place<R: System>(rt: &R, folders: &[String], size: GroupSize, absent: 
     true
 }
 
-/// Whether no renewed folder lies beside this one, as the system says.
+/// Whether no renewed folder is beside this one, as the system says.
 fn is_in_place<R: System>(rt: &R, folder: &str) -> bool {
     match Paths::of(rt.alloc(), folder) {
         Ok(Some(paths)) => matches!(fs::exists(rt, paths.renewed.as_str()), Ok(false)),
@@ -77,8 +78,8 @@ fn is_in_place<R: System>(rt: &R, folder: &str) -> bool {
     }
 }
 
-/// What was done so that the store is of a configuration is told, but where it is new or goes on, and noted. Where it
-/// was refused a line was written to standard error that says why.
+/// What was done to make the store fit a configuration is logged, unless it is new or goes on, and
+/// noted. If it was refused a line was written to standard error that says why.
 pub fn take<R: System>(
     rt: &R,
     config: &Config,
@@ -99,7 +100,7 @@ pub fn take<R: System>(
     }
 }
 
-/// The files that a start made, in which a store says of which setup it is, are noted.
+/// The files that a start made, in which a store says which setup it has, are noted.
 fn note(settled: Settled, made: &mut Made) -> Result<(), RunFault>
     ensures { IfErr result (IsOrMemory RunFault.Store) }
 {

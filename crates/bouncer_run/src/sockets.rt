@@ -24,20 +24,22 @@ pub const WAKER: usize = 0;
 /// The token of the server.
 pub const SERVER: usize = 100;
 
-/// The token of the client of number 0; that of each further one is one more.
+/// The token of the client of number 0; each further client has the next token.
 pub const CLIENTS: usize = 1000;
 
 /// How many clients may be connected at once: far more than one person has, and far fewer than the
 /// files that a program may have open.
 pub const MOST_CLIENTS: usize = 256;
 
-/// Where a node's clients come.
+/// Where the clients of a node arrive.
 #[derive(Drop)]
 pub struct Listening {
     pub address: SocketAddr,
-    /// None while the node is down or hangs: its address refuses connections, so that who comes goes to the next one.
+    /// None while the node is down or hangs: its address refuses connections, so that a client goes
+    /// to the next one.
     pub listener: Option<TcpListener>,
-    /// The last try to take a client, or to listen again, failed, so that the next one is due at the next tick.
+    /// The last try to take a client, or to listen again, failed, so the next one is due at the
+    /// next tick.
     pub is_deaf: bool,
     /// The node took clients before: until then its address is kept.
     pub was_open: bool,
@@ -48,7 +50,7 @@ pub struct Listening {
 pub struct Sockets {
     pub alloc: Global,
     pub poll: Poll,
-    /// Node 1's first; each has its node's number as its token.
+    /// Node 1's first; the token of each is the number of its node.
     pub listeners: Vec<Listening>,
     pub clients: BTreeMap<u64, Guest>,
     pub server_address: SocketAddr,
@@ -56,13 +58,13 @@ pub struct Sockets {
     pub reasons: Reasons,
     /// The connections that are ready to be read.
     pub queue: Queue,
-    /// Connections that were closed, as far as the bouncer is concerned.
+    /// Connections that are closed, as far as the bouncer is concerned.
     pub leaving: Leaving,
-    /// How often it was told of places that were taken.
+    /// How often it was logged that all places were taken.
     pub crowding: Ration,
-    /// The client that attached last, until an operator is told by which name.
+    /// The client that attached last, until the name by which it did is logged.
     pub newcomer: Option<Origin>,
-    /// What an operator is still to be told.
+    /// What is still to be logged.
     news: Vec<EdgeNews>,
 }
 
@@ -103,7 +105,7 @@ impl Sockets {
         Ok(())
     }
 
-    /// What listens at this address for the node at this place, from 0 on.
+    /// The listener at this address for the node at this place, from 0 on.
     pub fn listener_at(
         &self,
         net: &impl Net,
@@ -142,7 +144,7 @@ impl Sockets {
         }
     }
 
-    /// The server is connected to.
+    /// The server is connected.
     pub fn connect(&mut self, net: &impl Net) -> io::Result<()>
         ensures clients { self.new.clients ≡ self.old.clients }
         ensures server { OnOk result (Awaits (Some []) self.new.server) }
@@ -159,7 +161,7 @@ impl Sockets {
         Ok(())
     }
 
-    /// An operator is to be told.
+    /// This is to be logged.
     pub fn tell(&mut self, news: EdgeNews) -> Result<(), AllocError>
         ensures { self.new ≡ record self.old { news = self.new.news } }
     {
@@ -167,7 +169,7 @@ impl Sockets {
         Ok(())
     }
 
-    /// What an operator is to be told. None of it is given again.
+    /// What is to be logged. None of it is returned again.
     pub fn news(&mut self) -> Vec<EdgeNews> {
         std::mem::replace(&mut self.news, Vec::new(self.alloc))
     }

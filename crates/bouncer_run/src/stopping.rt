@@ -2,8 +2,9 @@
 ghost use Rattle.std.specs.Prelude.{◌≡◌, None, is_none};
 ghost use Rattle.bouncer_run.specs.Stopping.{begun, is_over};
 
-/// How long clients may stay after the input ended, in milliseconds: as long as a node may take to let one go, and far
-/// less than whoever ended the input waits before it kills (systemd 90 s).
+/// How long clients may stay after the input ended, in milliseconds: as long as a node may take to
+/// let one go, and far less than whoever ended the input waits before killing the bouncer (systemd
+/// 90 s).
 const LONGEST_STOP: u64 = 5_000;
 
 /// Whether the bouncer ends.
@@ -21,7 +22,8 @@ impl Stopping {
         Stopping { until: None }
     }
 
-    /// It is told at this moment to end. Whether it went on until now: told again it stays as it is.
+    /// It is to end, as of this moment. Returns whether it went on until now: if it was to end
+    /// before, it stays as it is.
     pub fn begin(&mut self, ms: u64) -> bool
         ensures until { self.new.until ≡ begun ms self.old.until }
         ensures first { result ≡ is_none self.old.until }

@@ -1,4 +1,4 @@
-//! What was done with a store as it was started, as an operator is told.
+//! What was done with a store when it was started, as it is logged.
 use crate::folders::Folders;
 use crate::system::System;
 use bouncer_config::Config;
@@ -6,7 +6,7 @@ use journal_folder::{ChangedKeys, OldFolder, Renewed, Settled};
 use raft_log::NodeId;
 use std::io;
 
-/// Says where an old folder lies now, where one was moved.
+/// Says where an old folder is now, if one was moved.
 pub fn tell_finished<R: System>(rt: &R, one: &OldFolder) {
     if let Some(old) = &one.old {
         let folder = one.folder.as_str();
@@ -47,7 +47,8 @@ pub fn tell_settled<R: System>(rt: &R, config: &Config, settled: &Settled) {
     };
 }
 
-/// Says that the log of a store was begun anew since journals of it were lost, and whether these keys changed too.
+/// Says that the log of a store was begun anew because journals of it were lost, and whether these
+/// keys changed too.
 fn tell_lost<R: System>(
     rt: &R,
     folders: &Folders<'_>,

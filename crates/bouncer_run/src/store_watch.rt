@@ -17,9 +17,9 @@ use std::fs::Files;
 use std::io::{self, ErrorKind};
 use wire_bytes::MOST_NODES;
 
-/// How long after one look at the paths the next is due, in milliseconds: two looks in a row decide, so that a folder
-/// that was moved by mistake may be moved back at once, and a second program that made it anew has its session soon
-/// after.
+/// How long after one look at the paths the next is due, in milliseconds: two looks in a row
+/// decide, so that a folder that was moved by mistake may be moved back at once, and a second
+/// program that made it anew has its session soon after.
 const LOOK_EVERY: u64 = 500;
 
 /// A journal that is open, and its path.
@@ -29,9 +29,9 @@ struct Place {
     file: FileId,
 }
 
-/// The journals of a program that runs, and their paths. Each journal is locked, but a lock goes with the file: where
-/// no path leads to its journal, another program may run over what lies there. Where one still does, that program is
-/// refused, and this one goes on as with a disk that is lost.
+/// The journals of a running program, and their paths. Each journal is locked, but a lock goes with
+/// the file: if no path leads to its journal, another program may run over what is there. If one
+/// still does, that program is refused, and this one goes on as if it had lost a disk.
 #[derive(Drop)]
 pub struct StoreWatch {
     places: Vec<Place>,
@@ -42,8 +42,8 @@ pub struct StoreWatch {
 }
 
 impl StoreWatch {
-    /// Of those of these journals that are open, node 1's first, in one folder or in one for each. A look is due at
-    /// once.
+    /// For those of these journals that are open, node 1's first, in one folder or in one for each.
+    /// A look is due at once.
     pub fn of(
         alloc: Global,
         folders: &[String],
@@ -66,8 +66,8 @@ impl StoreWatch {
         })
     }
 
-    /// Whether a look is due, and finds none of the journals at its path, as the look before it did. The names of files
-    /// that are open are kept in memory by the system, so that a look waits for no disk.
+    /// Whether a look is due, and finds none of the journals at its path, as the look before it
+    /// did. The system keeps the names of open files in memory, so a look waits for no disk.
     pub fn look<R: Files>(&mut self, rt: &R, ms: u64) -> bool {
         if ms < self.due {
             return false;
@@ -81,13 +81,13 @@ impl StoreWatch {
 }
 
 impl Place {
-    /// Whether the journal lies at its path no more.
+    /// Whether the journal is no longer at its path.
     fn is_away<R: Files>(&self, rt: &R) -> bool {
         is_away(self.file, &FileId::at(rt, self.path.as_str()))
     }
 }
 
-/// The watch over journals. Where there is none, a line was written to standard error that says why.
+/// The watch over journals. If there is none, a line was written to standard error that says why.
 pub fn watch_of<R: System>(
     rt: &R,
     config: &Config,
@@ -105,7 +105,7 @@ pub fn watch_of<R: System>(
     }
 }
 
-/// Says on standard error that the journals do not lie in their folders any more.
+/// Says on standard error that the journals are no longer in their folders.
 pub fn tell_away<R: System>(rt: &R, folders: &[String]) {
     let _ = eprintln!(rt;
         "{}: the journals of this program lie here no more: move their folder back, and start again",
@@ -113,8 +113,8 @@ pub fn tell_away<R: System>(rt: &R, folders: &[String]) {
     );
 }
 
-/// Whether a journal lies at its path no more, where a look at the path gave this: another file, or that nothing is
-/// there. Any other error tells nothing of that.
+/// Whether a journal is no longer at its path, if a look at the path gave this: another file, or
+/// that nothing is there. Any other error says nothing about that.
 fn is_away(opened: FileId, found: &io::Result<FileId>) -> bool
     ensures { IsAway error_kind opened found.now result }
 {
@@ -124,7 +124,7 @@ fn is_away(opened: FileId, found: &io::Result<FileId>) -> bool
     }
 }
 
-/// Whether an error of this kind tells that nothing lies at a path.
+/// Whether an error of this kind says that nothing is at a path.
 fn is_missing(kind: ErrorKind) -> bool
     ensures { result ≡ is_missing kind }
 {

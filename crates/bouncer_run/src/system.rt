@@ -5,8 +5,8 @@ use std::rt::Runtime;
 use std::sync::Wait;
 use std::thread::Threads;
 
-/// All that the system is asked for. What a folder is listed by may go to another thread: a node that is opened late
-/// opens its journal in its worker's thread.
+/// All that the system is asked for. What lists a folder may go to another thread: a node that is
+/// opened late opens its journal in its worker's thread.
 pub trait System: Runtime<File = File, Dir: Send>
     + AllocGlobal
     + Threads

@@ -1,4 +1,4 @@
-//! What an operator is told on standard error.
+//! What is logged to standard error.
 ghost use Rattle.std.specs.Prelude.{◌≡◌};
 ghost use Rattle.bouncer_run.specs.Levels.{is_told};
 
@@ -16,7 +16,7 @@ use std::io;
 use std::rt::Runtime;
 
 /// Writes to standard error what an operator is to know: a line for each event, with the time and,
-/// where it is of one, the node. No line has a password or the text of a message in it.
+/// if it is about one, the node. No line has a password or the text of a message in it.
 #[derive(Drop)]
 pub struct Telling<R: Runtime> {
     rt: R,
@@ -26,7 +26,7 @@ pub struct Telling<R: Runtime> {
 }
 
 impl<R: Runtime> Telling<R> {
-    /// Of a store that fails it does not tell why, nor of a log that fills when it is full.
+    /// It does not say why a store fails, nor when a log that fills is full.
     pub fn new(rt: R, level: LogLevel) -> Telling<R> {
         Telling {
             rt,
@@ -36,7 +36,7 @@ impl<R: Runtime> Telling<R> {
         }
     }
 
-    /// It tells, too, why the store of a node failed, and when a log that fills is full.
+    /// It also says why the store of a node failed, and when a log that fills is full.
     pub fn over(rt: R, level: LogLevel, errors: JournalErrors, growth: Growth) -> Telling<R> {
         Telling {
             rt,
@@ -64,7 +64,7 @@ impl<R: Runtime> Telling<R> {
         }
     }
 
-    /// Why the store of a node failed, where this tells that it did, and it is known.
+    /// Why the store of a node failed, if this says that it did, and if it is known.
     fn error_of(&self, news: &News) -> Option<io::Error> {
         match &self.errors {
             Some(errors) => errors.of_news(news),
@@ -72,7 +72,7 @@ impl<R: Runtime> Telling<R> {
         }
     }
 
-    /// In how many days the log is full, where this tells that it fills, and it is known.
+    /// In how many days the log is full, if this says that it fills, and if it is known.
     fn days_of(&self, now: &Now, news: &News) -> Option<u64> {
         match &self.growth {
             Some(growth) => growth.days_of(now, news),
@@ -119,7 +119,7 @@ impl<R: Runtime> Operator for Telling<R> {
     }
 }
 
-/// Whether an event is told: details alone where they are asked for.
+/// Whether an event is logged: details only if they are asked for.
 fn is_told(level: LogLevel, is_detail: bool) -> bool
     ensures { result ≡ is_told level is_detail }
 {

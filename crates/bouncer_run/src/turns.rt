@@ -14,13 +14,14 @@ impl Sockets {
         } else if let Some(connection) = &mut self.server {
             connection.flush(now.ms);
         }
-        // one that broke is found so at its turn
+        // a broken one is found at its turn
         self.queue.join(token)?;
         Ok(())
     }
 
-    /// Who waits for a turn has one, the first that may be read first; who may not keeps its place.
-    /// So a server that never ends leaves room for clients, and a client for the others.
+    /// Each that waits for a turn has one, the first that may be read first; the others keep their
+    /// places. So a server that sends without end leaves room for clients, and a client for the
+    /// others.
     pub fn take_turns(&mut self, now: &Now, driver: &mut Driver) -> Result<(), LoopFault> {
         for _ in 0..self.queue.len() {
             let Some(token) = self.queue.next(driver) else {

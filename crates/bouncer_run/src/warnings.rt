@@ -1,4 +1,4 @@
-//! What in a configuration is allowed, and serves nobody.
+//! What is allowed in a configuration, but useful to nobody.
 use crate::system::System;
 use crate::telling::Telling;
 use bouncer_config::Config;
@@ -8,10 +8,11 @@ use std::fs::{self, File, Files};
 use std::os::unix::fs::MetadataExt;
 use std::rt::Runtime;
 
-/// Who may read a file beside its owner and its group: anybody.
+/// The mode bit that lets anybody read a file.
 const ANYBODY: u32 = 0o004;
 
-/// Says on standard error that anybody may read a configuration, in which passwords stand, where that is so.
+/// Says on standard error that anybody may read a configuration with passwords in it, if that is
+/// so.
 pub fn warn_of_readers<R: Runtime<File = File> + Files>(rt: &R, path: &str) {
     let Ok(metadata) = fs::metadata(rt, path) else {
         return;
@@ -21,7 +22,7 @@ pub fn warn_of_readers<R: Runtime<File = File> + Files>(rt: &R, path: &str) {
     }
 }
 
-/// An operator is told of each warning of a configuration.
+/// Each warning of a configuration is logged.
 pub fn warn<R: System>(now: &Now, config: &Config, telling: &Telling<R>) {
     for warning in Warning::all() {
         if warning.is_of(config) {
