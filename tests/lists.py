@@ -2,7 +2,6 @@
 
 import said
 
-NODES = (1, 2, 3)
 CHANNELS = ["#x", "#X", "#a", "#A", "&b", "#c{", "#C["]
 PEOPLE = ["ann", "Ann", "bob", "cy", "me", "dee", "x!y"]
 NICKS = ["me", "ME", "you"]
@@ -48,15 +47,17 @@ def line(dice):
     )
 
 
-def action(dice):
-    """What a client asks for. It attaches, leaves or says something as often as it does anything else."""
+def action(dice, names=NAMES):
+    """What a client asks for. It attaches, leaves or says something as often as it does anything else. It gives one of these names, if
+    there are any."""
     channel, target = dice.choice(CHANNELS), dice.choice(CHANNELS + PEOPLE)
     words = dice.choice(
         ["attach"] * 3
-        + [f"attach {dice.choice(NAMES)}"] * 4
+        + [f"attach {dice.choice(names)}" if names else "attach"] * 4
         + ["leave"] * 3
         + [f"say {target} {text(dice)}"] * 3
-        + [f"say {target} {dice.choice('xyz') * LONG_SAID}"]
+        + [f"{dice.choice(['say', 'notice'])} {target} {dice.choice('xyz') * LONG_SAID}"]
+        + [f"notice {target} {text(dice)}"]
         + [f"{verb} {channel}" for verb in ("join", "part", "detach", "detach", "reattach", "reattach")]
         + [f"play {target}", f"clear {target}", f"size {target} {dice.randrange(6)}", f"size {target} {dice.randrange(6)}"]
         + ["some", "pass"]
@@ -69,18 +70,18 @@ def action(dice):
 
 
 class Clients:
-    """Clients of some runs of each node."""
+    """Clients of some runs of each node, that give these names."""
 
-    def __init__(self, dice, boots):
-        self.dice, self.boots, self.asked = dice, boots, {}
+    def __init__(self, dice, boots, names):
+        self.dice, self.boots, self.names, self.asked = dice, boots, names, {}
 
     def origin(self):
-        node = self.dice.choice(NODES)
+        node = self.dice.choice([*self.boots])
         return said.origin(f"{node}.{self.dice.choice(self.boots[node])}.{self.dice.randrange(1, 3)}")
 
     def request(self, at):
         """A request with its client's next number, and seldom with another one; or what a client without numbers asks for."""
-        origin, what = self.origin(), action(self.dice)
+        origin, what = self.origin(), action(self.dice, self.names)
         if self.dice.randrange(4) == 0:
             return TO_BUFFERS + CLIENT + origin + at + what
         due = self.asked.get(origin, 0) + 1
@@ -91,7 +92,7 @@ class Clients:
 
     def gone(self):
         """A node's runs below one of these are gone."""
-        node = self.dice.choice(NODES)
+        node = self.dice.choice([*self.boots])
         return TO_BUFFERS + GONE + said.number(node, 1) + said.number(self.dice.choice(self.boots[node]), 8)
 
 
@@ -123,9 +124,10 @@ class Sessions:
         return TO_CLAIMS + CLAIM + self.id() + said.number(max(1, self.claimed_last), 8)
 
 
-def bodies(dice, count, boots, term, second):
-    """Bodies of a session and others, this many, of clients of these runs of each node, from this second on."""
-    clients, sessions = Clients(dice, boots), Sessions(dice, term)
+def bodies(dice, count, boots, term, second, names=NAMES):
+    """Bodies of a session and others, this many, of clients of these runs of each node, from this second on. The clients give these
+    names, if there are any."""
+    clients, sessions = Clients(dice, boots, names), Sessions(dice, term)
     log = [sessions.opened()]
     for place in range(1, count):
         kind, at = dice.randrange(40), said.moment(second + place)

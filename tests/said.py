@@ -11,6 +11,7 @@ KINDS = {
     "attach": 1,
     "leave": 2,
     "say": 3,
+    "notice": 3,
     "join": 4,
     "part": 5,
     "detach": 6,
@@ -19,6 +20,7 @@ KINDS = {
     "clear": 9,
     "size": 13,
 }
+SPEECHES = {"say": b"\0", "notice": b"\1"}
 NAMED = 15  # attaches with a name
 
 
@@ -48,8 +50,8 @@ def action(words):
         return bytes([NAMED]) + field(target)
     if verb in ("attach", "leave"):
         return kind
-    if verb == "say":
-        return kind + b"\0" + field(target) + field(last)
+    if verb in ("say", "notice"):
+        return kind + SPEECHES[verb] + field(target) + field(last)
     if verb == "size":
         return kind + field(target) + number(last, 2)
     return kind + field(target)
