@@ -19,7 +19,7 @@ use Rattle.client_gate.specs.Gates.{GateEffect, Given, given_effect, last_reques
 use Rattle.client_gate.specs.Numbers.{all_requests}
 use Rattle.driver.specs.declared.client.Client.{Client}
 use Rattle.driver.specs.declared.order.Order.{Order}
-use Rattle.driver.specs.Clients.{asked_all, asked_by, asks_of, is_cut, is_some_asked, parting_unless, passed, welcome, write_some, written}
+use Rattle.driver.specs.Clients.{asked_all, asked_by, asks_of, is_cut, is_some_asked, name_asked, parting_unless, passed, welcome, write_some, written}
 use Rattle.driver.specs.Cycling.{reworded}
 use Rattle.driver.specs.Once.{TellsOnce, number_told, numbers_of, numbers_told}
 use Rattle.driver.specs.Serving.{HasPassed, IsCutOff, IsParted, ended, ended_if}
@@ -36,22 +36,22 @@ unfolding asks_of
 told_asks origin at [] = refl
 told_asks origin at (request ∷ requests) = ap (λ numbers. request.number ∷ numbers) (told_asks origin at requests)
 
-told_welcome : (attached : Bool) (origin : Origin) → numbers_told (welcome attached origin) ≡ []
-told_welcome true origin = refl
-told_welcome false origin = refl
+told_welcome : (attached : Bool) (origin : Origin) (name : Option (List ℕ)) → numbers_told (welcome attached origin name) ≡ []
+told_welcome true origin name = refl
+told_welcome false origin name = refl
 
-told_all : (attached : Bool) (origin : Origin) (at : Moment) (requests : List Request) → numbers_told (asked_all attached origin at requests) ≡ numbers_of requests
+told_all : (attached : Bool) (origin : Origin) (name : Option (List ℕ)) (at : Moment) (requests : List Request) → numbers_told (asked_all attached origin name at requests) ≡ numbers_of requests
 unfolding asked_all
-told_all attached origin at [] = refl
-told_all attached origin at (request ∷ requests) =
-    told_append (welcome attached origin) (asks_of origin at (request ∷ requests))
-    ∙ ap (λ numbers. numbers ++ numbers_told (asks_of origin at (request ∷ requests))) (told_welcome attached origin)
+told_all attached origin name at [] = refl
+told_all attached origin name at (request ∷ requests) =
+    told_append (welcome attached origin name) (asks_of origin at (request ∷ requests))
+    ∙ ap (λ numbers. numbers ++ numbers_told (asks_of origin at (request ∷ requests))) (told_welcome attached origin name)
     ∙ told_asks origin at (request ∷ requests)
 
 -- as they are sent to the node
 pub told_by : (c : Client) (at : Moment) (requests : List Request) → numbers_told (asked_by c at requests) ≡ numbers_of requests
 told_by c at requests =
-    told_all c.is_attached c.origin at (reworded c.channels c.parting requests) ∙ numbers_kept c.channels c.parting requests
+    told_all c.is_attached c.origin (name_asked requests) at (reworded c.channels c.parting requests) ∙ numbers_kept c.channels c.parting requests
 
 told_some : (client : ℕ) (bytes : Vec ℕ) (items : List ℕ) → numbers_told (write_some client bytes items) ≡ []
 told_some client bytes [] = refl

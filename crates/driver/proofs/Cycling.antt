@@ -1,5 +1,5 @@
 -- A client's requests as they go to its node.
-use Rattle.std.proofs.Common.{◌≡◌, ◌∙◌, ◌≤◌, ◌++◌, ℕ, Bool, true, false, not, ◌&&◌, ◌||◌, ◌⊎◌, List, [], ◌∷◌, None, length, refl, sym, ap, inl, inr, arith}
+use Rattle.std.proofs.Common.{◌≡◌, ◌∙◌, ◌≤◌, ◌++◌, ℕ, Bool, true, false, not, ◌&&◌, ◌||◌, ◌⊎◌, List, [], ◌∷◌, Option, None, length, refl, sym, ap, inl, inr, arith}
 use Rattle.std.specs.Prelude.{IsTrue, codes, if◌then◌else◌, nat_le}
 use Rattle.std.specs.List.{list_all, list_any}
 use Rattle.std.proofs.lemmas.List.{append_assoc, append-nil}
@@ -118,30 +118,30 @@ cycles_go shown parting channel first second named here =
 
 -- The orders for requests: the welcome first, if there are any.
 
-pub asked_so : (attached : Bool) (origin : Origin) (at : Moment) (shown parting : List (List ℕ)) (requests : List Request) → (requests ≡ [] → ⊥)
-    → asked_all attached origin at (reworded shown parting requests) ≡ welcome attached origin ++ asks_of origin at (reworded shown parting requests)
+pub asked_so : (attached : Bool) (origin : Origin) (name : Option (List ℕ)) (at : Moment) (shown parting : List (List ℕ)) (requests : List Request) → (requests ≡ [] → ⊥)
+    → asked_all attached origin name at (reworded shown parting requests) ≡ welcome attached origin name ++ asks_of origin at (reworded shown parting requests)
 unfolding reworded asked_all
-asked_so attached origin at shown parting [] some = absurd (some refl)
-asked_so attached origin at shown parting (request ∷ requests) some = refl
+asked_so attached origin name at shown parting [] some = absurd (some refl)
+asked_so attached origin name at shown parting (request ∷ requests) some = refl
 
 -- a client that was attached before, or is by its first request
-pub later_told : (attached : Bool) (origin : Origin) (before between : Ordered) → attached ≡ true → between ≡ before → between ≡ ordered before (welcome attached origin)
-later_told true origin before between is same = same ∙ sym (ap (λ (items : List Order). record before { items = items }) (append-nil before.items))
-later_told false origin before between is same = absurd (cc is)
+pub later_told : (attached : Bool) (origin : Origin) (name : Option (List ℕ)) (before between : Ordered) → attached ≡ true → between ≡ before → between ≡ ordered before (welcome attached origin name)
+later_told true origin name before between is same = same ∙ sym (ap (λ (items : List Order). record before { items = items }) (append-nil before.items))
+later_told false origin name before between is same = absurd (cc is)
 
-pub first_told : (attached : Bool) (origin : Origin) (before between : Ordered) → attached ≡ false → between ≡ ordered before (Log (Attached origin) ∷ []) → between ≡ ordered before (welcome attached origin)
-first_told true origin before between is same = absurd (cc is)
-first_told false origin before between is same = same
+pub first_told : (attached : Bool) (origin : Origin) (name : Option (List ℕ)) (before between : Ordered) → attached ≡ false → between ≡ ordered before (Log (Attached origin name) ∷ []) → between ≡ ordered before (welcome attached origin name)
+first_told true origin name before between is same = absurd (cc is)
+first_told false origin name before between is same = same
 
 -- and what it asks after that
-pub asked_behind : (attached : Bool) (origin other : Origin) (at : Moment) (shown parting : List (List ℕ)) (requests told : List Request) (before between : Ordered) → (requests ≡ [] → ⊥)
-    → between ≡ ordered before (welcome attached origin) → other ≡ origin → told ≡ reworded shown parting requests
-    → ordered between (asks_of other at told) ≡ ordered before (asked_all attached origin at (reworded shown parting requests))
-asked_behind attached origin other at shown parting requests told before between some first same is =
+pub asked_behind : (attached : Bool) (origin other : Origin) (name : Option (List ℕ)) (at : Moment) (shown parting : List (List ℕ)) (requests told : List Request) (before between : Ordered) → (requests ≡ [] → ⊥)
+    → between ≡ ordered before (welcome attached origin name) → other ≡ origin → told ≡ reworded shown parting requests
+    → ordered between (asks_of other at told) ≡ ordered before (asked_all attached origin name at (reworded shown parting requests))
+asked_behind attached origin other name at shown parting requests told before between some first same is =
     let all = reworded shown parting requests in
-    let behind = ordered before (welcome attached origin) in
+    let behind = ordered before (welcome attached origin name) in
     ap (λ (orders : Ordered). ordered orders (asks_of other at told)) first
     ∙ ap (λ (own : Origin). ordered behind (asks_of own at told)) same
     ∙ ap (λ (requests : List Request). ordered behind (asks_of origin at requests)) is
-    ∙ ap (λ (items : List Order). record before { items = items }) (append_assoc before.items (welcome attached origin) (asks_of origin at all))
-    ∙ ap (λ (orders : List Order). ordered before orders) (sym (asked_so attached origin at shown parting requests some))
+    ∙ ap (λ (items : List Order). record before { items = items }) (append_assoc before.items (welcome attached origin name) (asks_of origin at all))
+    ∙ ap (λ (orders : List Order). ordered before orders) (sym (asked_so attached origin name at shown parting requests some))

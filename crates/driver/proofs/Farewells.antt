@@ -1,5 +1,5 @@
 -- A client that is leaving gets all that it is shown, as long as it is connected.
-use Rattle.std.proofs.Common.{◌≡◌, ◌∙◌, ◌++◌, ℕ, Bool, true, false, not, ◌&&◌, ◌||◌, List, [], ◌∷◌, Some, refl, sym, ap, subst, ⊎_elim}
+use Rattle.std.proofs.Common.{◌≡◌, ◌∙◌, ◌++◌, ℕ, Bool, true, false, not, ◌&&◌, ◌||◌, List, [], ◌∷◌, Option, Some, refl, sym, ap, subst, ⊎_elim}
 use Rattle.std.specs.Prelude.{if◌then◌else◌, is_some, nat_eq}
 use Rattle.std.specs.Global.{Vec}
 use Rattle.std.specs.List.{list_any}
@@ -16,7 +16,7 @@ use Rattle.driver.specs.declared.order.Order.{Order}
 use Rattle.driver.specs.declared.order.Order.TheVariants.{Write}
 use Rattle.driver.specs.declared.timer.Timer.{Timer}
 use Rattle.driver.specs.Asking.{held_if, is_stuck, may_be_lost, now_asked}
-use Rattle.driver.specs.Clients.{asked_all, asked_by, is_cut, is_leaving, is_some_asked, leaves_since, parting_unless, passed, write_some, written}
+use Rattle.driver.specs.Clients.{asked_all, asked_by, is_cut, is_leaving, is_some_asked, leaves_since, name_asked, parting_unless, passed, write_some, written}
 use Rattle.driver.specs.Crowds.{Ticks}
 use Rattle.driver.specs.Cycling.{reworded}
 use Rattle.driver.specs.Farewells.{LeaversAreShownAll, WritesJust, all_shown, bytes_to, closes, shown_by, written_to}
@@ -53,9 +53,9 @@ written_closes : (gone : Bool) (client : ℕ) (bytes : Vec ℕ) → list_any (cl
 written_closes true client bytes = refl
 written_closes false client bytes = some_closes client bytes bytes.items
 
-none_asked : (attached : Bool) (origin : Origin) (at : Moment) (requests : List Request) → requests ≡ [] → asked_all attached origin at requests ≡ []
+none_asked : (attached : Bool) (origin : Origin) (name : Option (List ℕ)) (at : Moment) (requests : List Request) → requests ≡ [] → asked_all attached origin name at requests ≡ []
 unfolding asked_all
-none_asked attached origin at requests is = ap (asked_all attached origin at) is
+none_asked attached origin name at requests is = ap (asked_all attached origin name at) is
 
 no_end : (cut : Bool) (orders : List Order) → cut ≡ false → (if cut then orders else []) ≡ []
 no_end true orders is = absurd (cc is)
@@ -93,7 +93,7 @@ passed_there e now at s calls since c told before orders here is p stays =
     let attached = c.is_attached || is_some_asked fed.requests.items in
     let end = if is_cut fed then parting_unless c.is_gone attached c.origin at last else [] in
     let requests = reworded c.channels c.parting fed.requests.items in
-    let no_asks : asks ≡ [] = none_asked c.is_attached c.origin at requests (none_told c.channels c.parting fed.requests.items none) in
+    let no_asks : asks ≡ [] = none_asked c.is_attached c.origin (name_asked fed.requests.items) at requests (none_told c.channels c.parting fed.requests.items none) in
     let no_more : end ≡ [] = no_end (is_cut fed) (parting_unless c.is_gone attached c.origin at last) whole in
     let just : passed c at last fed ≡ bytes =
     ap (λ (orders : List Order). (bytes ++ asks) ++ orders) no_more

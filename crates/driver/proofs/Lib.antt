@@ -101,3 +101,5 @@ mod PhaseNodes
 mod PhaseReports
 mod PhaseTold
 mod Phasing
+mod SilentClients
+mod SilentTicks

@@ -12,7 +12,7 @@ use Rattle.client_gate.specs.Calls.{Call, Refused, Stands, gate}
 use Rattle.client_gate.specs.Gates.{Given, last_request}
 use Rattle.driver.specs.declared.client.Client.{Client}
 use Rattle.driver.specs.declared.order.Order.{Order}
-use Rattle.driver.specs.Clients.{asked_all, asked_by, asks_of, is_cut, is_some_asked, left_news, parting_unless, passed, write_some, written}
+use Rattle.driver.specs.Clients.{asked_all, asked_by, asks_of, is_cut, is_some_asked, left_news, name_asked, parting_unless, passed, write_some, written}
 use Rattle.driver.specs.Cycling.{reworded}
 use Rattle.driver.specs.Once.{TellsOnly}
 use Rattle.driver.specs.Serving.{HasPassed, IsCutOff, IsParted, PartsIf, ended, ended_if}
@@ -30,11 +30,11 @@ unfolding TellsOnly asks_of
 only_asks origin at [] = tt
 only_asks origin at (request ∷ requests) = ((refl, refl), only_asks origin at requests)
 
-pub only_all : (attached : Bool) (origin : Origin) (at : Moment) (requests : List Request) → TellsOnly origin (asked_all attached origin at requests)
+pub only_all : (attached : Bool) (origin : Origin) (name : Option (List ℕ)) (at : Moment) (requests : List Request) → TellsOnly origin (asked_all attached origin name at requests)
 unfolding TellsOnly asked_all
-only_all attached origin at [] = tt
-only_all true origin at (request ∷ requests) = only_asks origin at (request ∷ requests)
-only_all false origin at (request ∷ requests) = (refl, only_asks origin at (request ∷ requests))
+only_all attached origin name at [] = tt
+only_all true origin name at (request ∷ requests) = only_asks origin at (request ∷ requests)
+only_all false origin name at (request ∷ requests) = (refl, only_asks origin at (request ∷ requests))
 
 only_some : (origin : Origin) (bytes : Vec ℕ) (items : List ℕ) → TellsOnly origin (write_some origin.2 bytes items)
 unfolding TellsOnly
@@ -72,7 +72,7 @@ only_passed c at last fed =
     let attached = c.is_attached || is_some_asked fed.requests.items in
     let end = if is_cut fed then parting_unless c.is_gone attached c.origin at last else [] in
     only_append c.origin (bytes ++ asks) end
-    (only_append c.origin bytes asks (only_written c.origin c.is_gone fed.reply) (only_all c.is_attached c.origin at (reworded c.channels c.parting fed.requests.items)))
+    (only_append c.origin bytes asks (only_written c.origin c.is_gone fed.reply) (only_all c.is_attached c.origin (name_asked fed.requests.items) at (reworded c.channels c.parting fed.requests.items)))
     (only_end (is_cut fed) c.is_gone attached c.origin at last)
 
 pub only_again : (again : Bool) (origin : Origin) (at : Moment) (waiting : List Request) → TellsOnly origin (if again then asks_of origin at waiting else [])

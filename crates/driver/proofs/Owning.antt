@@ -14,7 +14,7 @@ use Rattle.driver.specs.declared.client.Client.{Client}
 use Rattle.driver.specs.declared.order.Order.{Order}
 use Rattle.driver.specs.declared.order.Order.TheVariants.{Write}
 use Rattle.driver.specs.Asking.{HearsNode, anew_if, held_if, is_stuck, may_be_lost, now_asked}
-use Rattle.driver.specs.Clients.{asked_by, asks_of, is_cut, is_leaving, is_shut, last_asks, parting_unless, passed}
+use Rattle.driver.specs.Clients.{asked_by, asks_of, is_cut, is_leaving, is_shut, last_asks, name_asked, parting_unless, passed}
 use Rattle.driver.specs.Crowds.{Ticks}
 use Rattle.driver.specs.Cycling.{reworded}
 use Rattle.driver.specs.Leaving.{IsDismissed, Leaves, is_overdue}
@@ -40,7 +40,7 @@ takes_own true now at due s calls fed c new before after (orders, stands) = reco
   origin = ap (λ (client : Client). client.origin) stands.rest;
   told = asked_by c at fed.requests.items;
   orders = orders;
-  own = only_all c.is_attached c.origin at (reworded c.channels c.parting fed.requests.items);
+  own = only_all c.is_attached c.origin (name_asked fed.requests.items) at (reworded c.channels c.parting fed.requests.items);
 }
 
 pub reads_own : (shut : Bool) (bytes : List ℕ) (now : ℕ) (at : Moment) (due : ℕ) (s : Settings) (calls : List Call) (old new : Client) (before after : Ordered) → is_shut old ≡ shut → Stands s calls old.gate → Receives bytes now at due s calls old before new after → Owns s old before new after

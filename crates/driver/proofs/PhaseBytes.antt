@@ -1,6 +1,7 @@
 -- In which order an uplink gives the inputs of a session, before its end is reported.
 use Rattle.std.proofs.Common.{◌≡◌, ◌∙◌, ◌++◌, ℕ, Bool, true, false, List, [], ◌∷◌, Option, Some, None, refl, sym, ap, subst}
-use Rattle.std.specs.Prelude.{if◌then◌else◌}
+use Rattle.std.specs.Prelude.{if◌then◌else◌, is_some}
+use Rattle.std.specs.Option.{option_to_list}
 use Rattle.std.specs.List.{list_any}
 use Rattle.std.proofs.lemmas.List.{append_assoc, append-nil}
 use Rattle.irc_line.specs.Lines.{Parts}
@@ -14,6 +15,7 @@ use Rattle.uplink.specs.declared.meaning.Meaning.TheVariants as meaning
 use Rattle.uplink.specs.declared.session.Session.{Session as Link}
 use Rattle.uplink.specs.declared.session.Session.TheVariants as link
 use Rattle.uplink.specs.Calls.{Call, IsAfter, bytes_of, inputs_of, is_end}
+use Rattle.uplink.specs.Calls.Call.{Ended, Failed, Fed}
 use Rattle.uplink.specs.Sessions.{after_line, after_meaning, asking, given_by, inputs_for, inputs_from, meaning_of, next_nick}
 use Rattle.driver.specs.declared.link.Session.{Session}
 use Rattle.driver.specs.Ordering.{Phase}
@@ -130,3 +132,24 @@ pub absent_calm : (node : ℕ) (number : Option ℕ) → AllAre Calm (absent_new
 unfolding AllAre
 absent_calm node None = tt
 absent_calm node (Some number) = (tt, tt)
+
+-- so its end is given when it is reported
+
+ends_any : (calls : List Call) → list_any is_end (calls ++ Ended ∷ []) ≡ true
+ends_any [] = refl
+ends_any (Fed bytes ∷ calls) = ends_any calls
+ends_any (Failed ∷ calls) = ends_any calls
+ends_any (Ended ∷ calls) = refl
+
+end_inputs : (nick : List ℕ) (calls : List Call) → inputs_of nick (calls ++ Ended ∷ []) ≡ inputs_from (link.Registering nick) (items (bytes_of (calls ++ Ended ∷ []))) ++ input.Closed ∷ []
+unfolding inputs_of
+end_inputs nick calls =
+    ap (λ (ended : Bool). inputs_from (link.Registering nick) (items (bytes_of (calls ++ Ended ∷ []))) ++ (if ended then input.Closed ∷ [] else [])) (ends_any calls)
+
+pub end_given : (nick : List ℕ) (calls : List Call) (given : Option UplinkInput) → list_any is_end calls ≡ false → inputs_of nick calls ++ option_to_list given ≡ inputs_of nick (calls ++ Ended ∷ []) → is_some given ≡ true
+end_given nick calls (Some one) live is = refl
+end_given nick calls None live is =
+    let whole : inputs_of nick calls ≡ inputs_from (link.Registering nick) (items (bytes_of (calls ++ Ended ∷ []))) ++ input.Closed ∷ [] =
+    sym (append-nil (inputs_of nick calls)) ∙ is ∙ end_inputs nick calls
+    in
+    absurd (never_closed (inputs_from (link.Registering nick) (items (bytes_of (calls ++ Ended ∷ [])))) [] (subst IsSession whole (session_of_calls nick calls live)))

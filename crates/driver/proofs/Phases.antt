@@ -54,7 +54,7 @@ note_kept node note.Restart phase is = refl
 note_kept node note.End phase is = refl
 
 news_kept : (said : News) (phase : Phase) → InnerNews said → behind (order.Log said) phase ≡ Some (kept phase)
-news_kept (news.Attached origin) phase is = refl
+news_kept (news.Attached origin name) phase is = refl
 news_kept (news.Left origin) phase is = refl
 news_kept (news.Evicted origin why) phase is = refl
 news_kept (news.NotJoined node number) phase is = refl

@@ -1,9 +1,10 @@
 -- What each call does to the phase of a session: over all calls nodes are told of sessions in order.
-use Rattle.std.proofs.Common.{◌≡◌, ◌∙◌, ℕ, Bool, List, [], ◌∷◌, refl, sym, ap, subst}
-use Rattle.std.specs.Prelude.{nat_eq}
+use Rattle.std.proofs.Common.{◌≡◌, ◌∙◌, ◌++◌, ℕ, Bool, true, false, List, [], ◌∷◌, Option, Some, None, refl, sym, ap, subst}
+use Rattle.std.specs.Prelude.{◌&&◌, if◌then◌else◌, is_some, nat_eq}
 use Rattle.std.specs.BTreeMap.{keys}
 use Rattle.driver.specs.declared.clients.Clients.{Clients}
 use Rattle.driver.specs.declared.driver.Driver.{Driver}
+use Rattle.driver.specs.declared.link.Session.{Session}
 use Rattle.driver.specs.declared.link.Stage.{Stage}
 use Rattle.driver.specs.declared.link.Stage.TheVariants.{Closing, Connecting, Idle, Open}
 use Rattle.driver.specs.declared.order.Order.{Order}
@@ -11,16 +12,17 @@ use Rattle.driver.specs.declared.order.Order.TheVariants as order
 use Rattle.driver.specs.declared.settings.Settings.{Settings}
 use Rattle.driver.specs.Calls.{Call, Does, DoesAll, IsTold, Step, Connect, Connected, Dismiss, End, Hand, Hear, Lose, Notice, Receive, ReceiveLine, Refuse, Take, Tick, Watch, WatchNodes, WatchPasswords}
 use Rattle.driver.specs.Counting.{all_told}
-use Rattle.driver.specs.Driving.{told_of}
+use Rattle.driver.specs.Driving.{closed_of, closed_orders, told_of}
 use Rattle.driver.specs.Guarding.{untold}
-use Rattle.driver.specs.Links.{Connects, node_of}
-use Rattle.driver.specs.Ordering.{Gone, Leads, Phase, SessionsAreTold}
+use Rattle.driver.specs.Hearing.{boot_up}
+use Rattle.driver.specs.Links.{Connects, IsLost, ending, node_of, status_at}
+use Rattle.driver.specs.Ordering.{EndsAreTold, Gone, Leads, Phase, SessionsAreTold}
 use Rattle.driver.specs.Rosters.{client_at}
 use Rattle.driver.specs.Telling.{ordered}
 use Rattle.driver.proofs.Adding.{Adds, all_written_add, nothing_adds, written_adds}
 use Rattle.driver.proofs.ClientCalls.{more_adds}
 use Rattle.driver.proofs.Growing.{AllAre, AllGood, Good, dismisses_grow, none_some}
-use Rattle.driver.proofs.PhaseBytes.{none_given}
+use Rattle.driver.proofs.PhaseBytes.{end_given, none_given}
 use Rattle.driver.proofs.PhaseClients.{connect_goes, loses_go, speaks_go, watch_goes, watches_go}
 use Rattle.driver.proofs.PhaseEnds.{ends_go}
 use Rattle.driver.proofs.PhaseNodes.{ticks_go}
@@ -135,3 +137,41 @@ sessions_told steps driver led =
     steps_lead Gone steps led.first driver (subst (λ (stage : Stage). StandsAs Gone stage) (sym new.stage) tt)
     (λ number c found. none_some c (Good Calm c) (sym (new.clients number) ∙ found))
     led.calls
+
+-- The end of an open connection.
+
+steps_stand : (phase : Phase) (steps : List Step) (old new : Driver) → StandsAs phase old.link.stage → AllGood Calm old.clients → DoesAll steps old new → (last : Phase) × StandsAs last new.link.stage
+unfolding DoesAll
+steps_stand phase [] old new stands good same = (phase, subst (λ (driver : Driver). StandsAs phase driver.link.stage) (sym same) stands)
+steps_stand phase (step ∷ more) old new stands good (mid, does, rest) =
+    let b = call_goes phase step.call step.told old mid stands good does.does does.told in
+    steps_stand b.next more mid new b.stands b.good rest
+
+closed_up : (node : ℕ) (lost up : Bool) → lost ≡ true → up ≡ true → (if lost && up then Some node else None) ≡ Some node
+closed_up node true true lost up = refl
+closed_up node true false lost up = absurd (cc up)
+closed_up node false up lost is = absurd (cc lost)
+
+ended_by : (stage : Stage) (phase : Phase) (session : Session) (lost : Bool) → stage ≡ Open session → StandsAs phase stage → IsLost stage lost → lost ≡ true
+ended_by (Idle since wait) phase session lost is stands l = absurd (cc is)
+ended_by (Closing since wait) phase session lost is stands l = absurd (cc is)
+ended_by (Connecting node) phase session lost is stands l = absurd (cc is)
+ended_by (Open own) phase session lost is has (behind, given, goes, same) =
+    same ∙ end_given has.nick has.calls given has.is_live (goes.inputs has.nick has.calls has.after)
+
+pub ends_told : EndsAreTold
+ends_told steps driver new session now why led is up e =
+    let first = led.is_new in
+    let (last, stands) =
+    steps_stand Gone steps led.first driver (subst (λ (stage : Stage). StandsAs Gone stage) (sym first.stage) tt)
+    (λ number c found. none_some c (Good Calm c) (sym (first.clients number) ∙ found))
+    led.calls
+    in
+    let lost = ended_by driver.link.stage last session e.lost is stands e.is_lost in
+    let closed : closed_of driver.monitors (node_of driver.link.stage) e.lost ≡ Some session.node =
+    ap (λ (stage : Stage). closed_of driver.monitors (node_of stage) e.lost) is
+    ∙ closed_up session.node e.lost (is_some (boot_up (status_at driver.monitors session.node))) lost up
+    in
+    e.orders
+    ∙ ap (λ (stage : Stage). ordered driver.orders (ending stage why ++ closed_orders (closed_of driver.monitors (node_of driver.link.stage) e.lost))) is
+    ∙ ap (λ (node : Option ℕ). ordered driver.orders (ending (Open session) why ++ closed_orders node)) closed

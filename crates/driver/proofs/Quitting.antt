@@ -35,7 +35,7 @@ Inner (order.Log said) = InnerNews said
 Inner o = Unit {0}
 
 news_kept : (now : ℕ) (said : News) (c : Connection) → InnerNews said → behind now (order.Log said) c ≡ Some (kept c)
-news_kept now (news.Attached origin) c is = refl
+news_kept now (news.Attached origin name) c is = refl
 news_kept now (news.Left origin) c is = refl
 news_kept now (news.Evicted origin why) c is = refl
 news_kept now (news.NotJoined node number) c is = refl
@@ -65,7 +65,7 @@ inner_kept now (order.Log said) c is = news_kept now said c is
 
 -- an order of a client does not
 client_news : (origin : Origin) (said : News) → IsFor origin (order.Log said) → InnerNews said
-client_news origin (news.Attached other) is = tt
+client_news origin (news.Attached other name) is = tt
 client_news origin (news.Left other) is = tt
 client_news origin (news.Evicted other why) is = tt
 client_news origin (news.NotJoined node number) is = absurd is

@@ -70,7 +70,7 @@ follows_behind n down last (x ∷ xs) ys (fits, more) = follows_behind n (down_b
 
 -- a node that was down is down after an order that does not log that it is up
 said_still : (n : ℕ) (said : News) → tells_up n (order.Log said) ≡ false → down_said n true said ≡ true
-said_still n (news.Attached origin) is = refl
+said_still n (news.Attached origin name) is = refl
 said_still n (news.Left origin) is = refl
 said_still n (news.Evicted origin why) is = refl
 said_still n (news.NotJoined node number) is = refl
@@ -149,7 +149,7 @@ both_false false own up = refl
 
 -- an order of a client whose node is up, or another one
 client_news : (n : ℕ) (down : Bool) (origin : Origin) (said : News) → IsFor origin (order.Log said) → down_said n down said ≡ down
-client_news n down origin (news.Attached other) is = refl
+client_news n down origin (news.Attached other name) is = refl
 client_news n down origin (news.Left other) is = refl
 client_news n down origin (news.Evicted other why) is = refl
 client_news n down origin (news.NotJoined node number) is = absurd is

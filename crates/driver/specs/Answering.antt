@@ -25,9 +25,9 @@ help_texts =
     ∷ codes "PLAYBUFFER name - show what is kept of a channel or a person"
     ∷ codes "CLEARBUFFER name - forget what is kept of one"
     ∷ codes "CLEARALLCHANNELBUFFERS, CLEARALLQUERYBUFFERS, CLEARALLBUFFERS - forget what is kept of all"
-    ∷ codes "SETBUFFER name lines - keep so many lines of one, at most 500"
+    ∷ codes "SETBUFFER name lines - keep this many lines of one, at most 500"
     ∷ codes "DROP WAITING - forget what waits to go to the server"
-    ∷ codes "STATUS - how the bouncer stands; CLIENTS - who is attached; HELP - this list" ∷ []
+    ∷ codes "STATUS - the state of the bouncer; CLIENTS - who is attached; HELP - this list" ∷ []
 
 -- the client that was found gets these texts from `*status`, in this order
 unfoldable pub AreTold : List (List ℕ) → Option Client → List ℕ → Ordered → Ordered → Type 0

@@ -33,15 +33,15 @@ unfoldable pub asks_of : Origin → Moment → List Request → List Order
 asks_of origin at [] = []
 asks_of origin at (request ∷ requests) = ask_of origin at request ∷ asks_of origin at requests
 
--- a client is logged with its first request
-abbrev pub welcome : Bool → Origin → List Order
-welcome true origin = []
-welcome false origin = Log (Attached origin) ∷ []
+-- a client is logged with its first request, and by which name it attaches
+abbrev pub welcome : Bool → Origin → Option (List ℕ) → List Order
+welcome true origin name = []
+welcome false origin name = Log (Attached origin name) ∷ []
 
--- what requests of a client order, depending on whether it asked before
-unfoldable pub asked_all : Bool → Origin → Moment → List Request → List Order
-asked_all attached origin at [] = []
-asked_all attached origin at (request ∷ requests) = welcome attached origin ++ asks_of origin at (request ∷ requests)
+-- what requests of a client order, depending on whether it asked before; if not, they attach it by this name
+unfoldable pub asked_all : Bool → Origin → Option (List ℕ) → Moment → List Request → List Order
+asked_all attached origin name at [] = []
+asked_all attached origin name at (request ∷ requests) = welcome attached origin name ++ asks_of origin at (request ∷ requests)
 
 -- there is a request
 abbrev pub is_some_asked : List Request → Bool
@@ -103,7 +103,7 @@ is_cut fed = fed.close && not (is_some_asked fed.requests.items)
 
 -- the orders for requests of a client: a Join of a channel that it asked to part from goes as a line
 abbrev pub asked_by : Client → Moment → List Request → List Order
-asked_by c at requests = asked_all c.is_attached c.origin at (reworded c.channels c.parting requests)
+asked_by c at requests = asked_all c.is_attached c.origin (name_asked requests) at (reworded c.channels c.parting requests)
 
 -- what a gate answered goes on: the bytes to its client, the requests to its node; if the gate closes, and the client
 -- did not ask to leave, the client is closed

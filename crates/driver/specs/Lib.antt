@@ -49,6 +49,7 @@ pub mod Servers
 pub mod Serving
 pub mod Sessions
 pub mod Silence
+pub mod SilentClients
 pub mod Telling
 pub mod Waking
 pub mod Writing

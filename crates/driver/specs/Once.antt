@@ -116,7 +116,7 @@ IsAskOf origin note = ⊥
 
 -- it is logged that this client registered, that it is closed, or that it left
 abbrev pub IsNewsOf : Origin → News → Type 0
-IsNewsOf origin (Attached other) = other ≡ origin
+IsNewsOf origin (Attached other name) = other ≡ origin
 IsNewsOf origin (Left other) = other ≡ origin
 IsNewsOf origin (Evicted other why) = other ≡ origin
 IsNewsOf origin news = ⊥

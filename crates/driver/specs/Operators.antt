@@ -5,7 +5,7 @@ use Rattle.driver.specs.declared.news.News.TheVariants.{Attached, Left, Evicted,
 
 -- the node that a log line is about, if it is about one
 abbrev pub node_of : News → Option ℕ
-node_of (Attached origin) = Some origin.0
+node_of (Attached origin name) = Some origin.0
 node_of (Left origin) = Some origin.0
 node_of (Evicted origin why) = Some origin.0
 node_of (NotJoined node number) = Some node

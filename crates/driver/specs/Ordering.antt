@@ -1,16 +1,23 @@
 -- In which order a node gets the notes of a session, over all calls.
-use Rattle.std.specs.Prelude.{◌≡◌, ℕ, nat_eq, if◌then◌else◌, List, [], ◌∷◌, Option, Some, None}
+use Rattle.std.specs.Prelude.{◌≡◌, ℕ, true, is_some, nat_eq, if◌then◌else◌, List, [], ◌∷◌, Option, Some, None}
 use Rattle.bouncer_tower.specs.Bodies.{TowerBody}
 use Rattle.buffer_commands.specs.declared.wire_line.WireLine.{WireLine}
 use Rattle.node_notes.specs.declared.note.Note.{Note}
 use Rattle.node_notes.specs.declared.note.Note.TheVariants as note
 use Rattle.driver.specs.declared.driver.Driver.{Driver}
+use Rattle.driver.specs.declared.link.Session.{Session}
+use Rattle.driver.specs.declared.link.Stage.TheVariants.{Open}
+use Rattle.driver.specs.declared.news.Ending.{Ending}
 use Rattle.driver.specs.declared.news.News.{News}
 use Rattle.driver.specs.declared.news.News.TheVariants.{Closed, Unopened}
 use Rattle.driver.specs.declared.order.Order.{Order}
 use Rattle.driver.specs.declared.order.Order.TheVariants.{Connect, Log, Submit}
 use Rattle.driver.specs.Calls.{Led, Step}
 use Rattle.driver.specs.Counting.{all_told}
+use Rattle.driver.specs.Driving.{Ends}
+use Rattle.driver.specs.Hearing.{boot_up}
+use Rattle.driver.specs.Links.{end_of, status_at}
+use Rattle.driver.specs.Telling.{ordered}
 
 -- How far a session is, as orders show it: there is no connection; one was asked for, and no node was told of a session
 -- there; this node was told that the session opened; or the last order logs that the connection of this node ended.
@@ -104,3 +111,13 @@ Leads phase (order ∷ more) last = (next : Phase) × (behind order phase ≡ So
 -- told anything of a session.
 abbrev pub SessionsAreTold : Type 0
 SessionsAreTold = (steps : List Step) (driver : Driver) → Led steps driver → (last : Phase) × Leads Gone (all_told steps) last
+
+-- After every list of calls of a new driver: if an open connection is gone, and its node is up, as far as is known, it
+-- is logged that the session ended, or that none was given, and the node is told that the session closed.
+abbrev pub EndsAreTold : Type 0
+EndsAreTold =
+    (steps : List Step) (driver new : Driver) (session : Session) (now : ℕ) (why : Ending)
+    → Led steps driver → driver.link.stage ≡ Open session
+    → is_some (boot_up (status_at driver.monitors session.node)) ≡ true
+    → Ends now why driver new
+    → new.orders ≡ ordered driver.orders (Log (end_of session.is_opened session.node why) ∷ Submit session.node note.Closed ∷ [])

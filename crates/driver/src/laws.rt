@@ -10,13 +10,14 @@ ghost use Rattle.driver.specs.Joining.{JoinsFit};
 ghost use Rattle.driver.specs.Keys.{KeysAreLearnt};
 ghost use Rattle.driver.specs.Led.{IsOfLeaderHeard, IsOfLeaderTicked};
 ghost use Rattle.driver.specs.Once.{AsksOnce, AsksOwn};
-ghost use Rattle.driver.specs.Ordering.{SessionsAreTold};
+ghost use Rattle.driver.specs.Ordering.{EndsAreTold, SessionsAreTold};
 ghost use Rattle.driver.specs.Pacing.{IsPaced};
 ghost use Rattle.driver.specs.Queueing.{DropsWhatWaits, OpeningGoesFirst, QuestionsWait, SaidAreCounted, SaidGoInOrder};
 ghost use Rattle.driver.specs.Quitting.{SessionsEndFirst};
 ghost use Rattle.driver.specs.Reaching.{EffectsReach};
 ghost use Rattle.driver.specs.Rewording.{RewordsEndings};
 ghost use Rattle.driver.specs.Sessions.{OpensOnce};
+ghost use Rattle.driver.specs.SilentClients.{SilentAreClosed};
 
 /// Whatever happens to a client: as long as its node reports no note of it as lost, and nothing holds it up, each
 /// request that its gate numbers goes to its node once, and in order.
@@ -141,7 +142,15 @@ pub fn sessions_end_first()
 /// Over every list of calls of a driver, with each connection to the server: at most one node is told that the session
 /// opened, and is told so once; after that only this node gets lines of it, until it is logged that the session ended.
 /// Right after that this node may be told so, and until the next connection is asked for no node is told anything of a
-/// session.
+/// session. If the server's end is reported and the node is up, as far as is known, the node is told so.
 pub fn sessions_are_told()
-    ensures { SessionsAreTold }
+    ensures order { SessionsAreTold }
+    ensures ends { EndsAreTold }
+{}
+
+/// Whatever happened to a client since it connected: if it registered, its password was right, and it is neither leaving
+/// nor gone, then as time passes it is closed exactly if nothing came of it for four minutes in which it was read, and
+/// it was sent a PING since it last spoke. It is sent that PING, once, when nothing came of it for two such minutes.
+pub fn silent_clients_are_closed()
+    ensures { SilentAreClosed }
 {}

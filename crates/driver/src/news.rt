@@ -6,9 +6,11 @@ ghost use Rattle.driver.specs.Operators.{node_of};
 
 use crate::eviction::Eviction;
 use crate::level::Level;
+use irc_line::Name;
 use raft_log::NodeId;
 use raft_node::Cause;
 use std::fmt;
+use std::str::from_utf8;
 use wire_bytes::{Number, Origin};
 
 /// Why a connection to the server ended, or was not made.
@@ -62,10 +64,10 @@ impl fmt::Display for Ending {
 }
 
 /// What is logged for the operator, a line each: never a password, nor the text of a message.
-#[derive(Clone, Copy)]
+#[derive(Drop)]
 pub enum News {
-    /// A client registered at its node.
-    Attached(Origin),
+    /// A client registered at its node, with this name if it gave one.
+    Attached(Origin, Option<Name>),
     /// A client's connection is gone.
     Left(Origin),
     /// The buffers close a client, and why.
@@ -119,7 +121,7 @@ impl News {
         ensures { result ≡ node_of self.now }
     {
         match self {
-            News::Attached(origin) | News::Left(origin) => Some(NodeId::new(origin.node())),
+            News::Attached(origin, _) | News::Left(origin) => { Some(NodeId::new(origin.node())) }
             News::Evicted(origin, _) => Some(NodeId::new(origin.node())),
             News::Elected(node, _) | News::Opened(node) => Some(*node),
             News::NotJoined(node, _) => Some(*node),
@@ -136,7 +138,15 @@ impl News {
 impl fmt::Display for News {
     fn fmt<W: fmt::Write>(&self, f: &mut fmt::Formatter<W>) -> fmt::Result {
         match self {
-            News::Attached(origin) => write!(f, "client {} attached", origin.client()),
+            News::Attached(origin, None) => write!(f, "client {} attached", origin.client()),
+            News::Attached(origin, Some(name)) => {
+                write!(
+                    f,
+                    "client {} attached as {}",
+                    origin.client(),
+                    text_of(name)
+                )
+            }
             News::Left(origin) => write!(f, "client {} left", origin.client()),
             News::Evicted(origin, why) => {
                 write!(f, "client {} is closed: {why}", origin.client())
@@ -180,4 +190,9 @@ impl fmt::Display for News {
             }
         }
     }
+}
+
+/// A name as text, if it is text.
+fn text_of(name: &Name) -> &str {
+    from_utf8(name.as_bytes()).unwrap_or("one that is no text")
 }

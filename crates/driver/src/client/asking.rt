@@ -67,7 +67,8 @@ impl Client {
         if !self.is_attached {
             self.is_attached = true;
             self.name = name_asked(self.alloc, requests.as_slice())?;
-            orders.log(News::Attached(self.origin))?;
+            let name = name_asked(self.alloc, requests.as_slice())?;
+            orders.log(News::Attached(self.origin, name))?;
         }
         let told = self.reword(requests)?;
         ask_each(self.origin, now, told, orders)

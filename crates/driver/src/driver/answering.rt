@@ -81,9 +81,9 @@ impl Driver {
                 b"PLAYBUFFER name - show what is kept of a channel or a person",
                 b"CLEARBUFFER name - forget what is kept of one",
                 b"CLEARALLCHANNELBUFFERS, CLEARALLQUERYBUFFERS, CLEARALLBUFFERS - forget what is kept of all",
-                b"SETBUFFER name lines - keep so many lines of one, at most 500",
+                b"SETBUFFER name lines - keep this many lines of one, at most 500",
                 b"DROP WAITING - forget what waits to go to the server",
-                b"STATUS - how the bouncer stands; CLIENTS - who is attached; HELP - this list",
+                b"STATUS - the state of the bouncer; CLIENTS - who is attached; HELP - this list",
             ],
         )
     }
