@@ -2,6 +2,7 @@ pub mod CheckFaults
 pub mod Delivered
 pub mod Elements
 pub mod Entries
+pub mod Heard
 pub mod SomeFolders
 pub mod Longest
 pub mod Marks

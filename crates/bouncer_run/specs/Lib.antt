@@ -6,6 +6,7 @@ pub mod Deliveries
 pub mod Faults
 pub mod Groups
 pub mod Guests
+pub mod Hearing
 pub mod Inputs
 pub mod Levels
 pub mod Limits

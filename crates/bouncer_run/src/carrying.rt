@@ -5,7 +5,7 @@ ghost use Rattle.bouncer_run.specs.Sendings.{IsSent};
 ghost use Rattle.bouncer_run.specs.Submissions.{AreTold, note_in, notes_in};
 
 use crate::event_loop::{LoopFault, Nodes};
-use crate::loop_news::{tell_name, tell_news};
+use crate::loop_news::tell_news;
 use crate::operator::Operator;
 use crate::sockets::Sockets;
 use driver::{Driver, Now, Order, TowerNote};
@@ -89,7 +89,7 @@ fn carry_out<R: Net + Wait, N: Nodes, O: Operator>(
     ensures notes { OnOk result (AreTold N.has_told (note_in order) nodes.old nodes.new) }
 {
     match order {
-        Order::Submit(node, note) => submit(rt, now, sockets, nodes, operator, node, note),
+        Order::Submit(node, note) => submit(rt, nodes, node, note),
         Order::Write(number, bytes) => sockets.write(now, driver, number, bytes.as_slice()),
         Order::Close(number) => {
             sockets.close(now, number);
@@ -105,22 +105,15 @@ fn carry_out<R: Net + Wait, N: Nodes, O: Operator>(
     }
 }
 
-/// Sends this to a node's worker; the name by which a client attached is logged, if this asks for
-/// that.
-fn submit<R: Wait, N: Nodes, O: Operator>(
+/// Sends this to a node's worker.
+fn submit<R: Wait, N: Nodes>(
     rt: &R,
-    now: &Now,
-    sockets: &mut Sockets,
     nodes: &mut N,
-    operator: &mut O,
     node: NodeId,
     note: TowerNote,
 ) -> Result<(), LoopFault>
     ensures told { OnOk result (N.has_told nodes.old node note nodes.new) }
-    ensures clients { sockets.new.clients ≡ sockets.old.clients }
-    ensures server { sockets.new.server ≡ sockets.old.server }
 {
-    tell_name(now, sockets, operator, &note)?;
     if !nodes.tell(rt, node, note) {
         return Err(LoopFault::Memory);
     }

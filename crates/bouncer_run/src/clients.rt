@@ -1,58 +1,43 @@
 //! What happens at the clients' connections goes to the driver.
-ghost use Rattle.std.specs.Prelude.{◌≡◌, [], false, None};
+ghost use Rattle.std.specs.Prelude.{◌≡◌, [], false, None, OnOk};
+ghost use Rattle.driver.specs.Calls.{Does};
+ghost use Rattle.driver.specs.Calls.Call.{Lose};
 ghost use Rattle.bouncer_run.specs.Deliveries.{AreOthersSame, HasWritten, guest_at};
+ghost use Rattle.bouncer_run.specs.Hearing.{IsServed};
 
-use crate::connection::{Got, Reading};
+use crate::connection::Reading;
 use crate::edge_news::EdgeNews;
 use crate::event_loop::LoopFault;
 use crate::guest::Stage;
-use crate::pieces::{PIECE, PIECES};
+use crate::hearing::hear_client;
 use crate::sockets::{CLIENTS, Sockets};
-use driver::{Driver, Ending, Now};
+use driver::{Driver, Now};
 use mio::{Interest, Token};
 
 impl Sockets {
     /// A client's connection may be read from or written to.
-    pub fn serve(&mut self, now: &Now, driver: &mut Driver, number: u64) -> Result<(), LoopFault> {
+    pub fn serve(&mut self, now: &Now, driver: &mut Driver, number: u64) -> Result<(), LoopFault>
+        ensures { OnOk result (IsServed now.now number driver.old driver.new) }
+    {
         let Some(guest) = self.clients.get_mut(&number) else {
             return Ok(());
         };
         let takes = guest.connection.flush(now.ms);
-        match self.read_client(now, driver, number)? {
-            Reading::Later => Ok(()),
-            Reading::Done if takes => Ok(()),
-            Reading::Done | Reading::Ended(_) => self.drop_client(now, driver, number),
-        }
-    }
-
-    /// Reads what a client sent, as far as it is to be read.
-    fn read_client(
-        &mut self,
-        now: &Now,
-        driver: &mut Driver,
-        number: u64,
-    ) -> Result<Reading, LoopFault> {
-        let mut piece = [0u8; PIECE];
-        for _ in 0..PIECES {
-            match self.next_of_client(driver, number, &mut piece) {
-                Got::Bytes(count) => {
-                    if let Some(bytes) = piece.get(..count) {
-                        take(now, driver, number, bytes)?;
-                        self.note_refusal(driver, number);
-                    }
-                }
-                Got::Nothing => return Ok(Reading::Done),
-                Got::End(why) => return Ok(Reading::Ended(why)),
-                Got::Later => {
-                    self.queue.join(CLIENTS.saturating_add(number as usize))?;
-                    return Ok(Reading::Later);
-                }
+        let reading = hear_client(now, driver, number, &mut guest.connection)?;
+        self.note_refusal(driver, number);
+        let stays = match reading {
+            Reading::Done => takes,
+            Reading::More => takes && self.watch_client(number),
+            Reading::Ended(_) => false,
+            Reading::Later => {
+                self.queue.join(CLIENTS.saturating_add(number as usize))?;
+                true
             }
+        };
+        if stays {
+            return Ok(());
         }
-        if self.watch_client(number) {
-            return Ok(Reading::Done);
-        }
-        Ok(Reading::Ended(Ending::Lost))
+        self.drop_client(now, driver, number)
     }
 
     /// More may wait at a client's connection than was read, so it is queued again. Returns whether
@@ -106,6 +91,8 @@ impl Sockets {
         ensures gone { guest_at self.new number ≡ None }
         ensures others { AreOthersSame number self.old self.new }
         ensures server { self.new.server ≡ self.old.server }
+        ensures lost { OnOk result
+            (Does (Lose now.now.ms now.now.at number) driver.old driver.new) }
     {
         if driver.is_attached(number) {
             self.register(number);
@@ -131,15 +118,4 @@ impl Sockets {
         self.leaving.add(now.ms, guest.connection.stream);
         Ok(())
     }
-}
-
-/// What a client sent goes to the driver. If nothing new is taken from it, it gets a line that says
-/// so, except for a PING, which asks for nothing that is kept.
-fn take(now: &Now, driver: &mut Driver, number: u64, bytes: &[u8]) -> Result<(), LoopFault> {
-    if driver.refuses(number) && !bytes.starts_with(b"PING") {
-        driver.refuse(number)?;
-    } else {
-        driver.receive(now, number, bytes)?;
-    }
-    Ok(())
 }

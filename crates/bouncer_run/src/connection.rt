@@ -1,6 +1,7 @@
 //! A connection, with what is still to be written to it.
 ghost use Rattle.std.specs.Prelude.{◌≡◌, ◌&&◌, ◌==◌, [], not, false, length, IfOk, IsTrue};
 ghost use Rattle.bouncer_run.specs.Connections.{gathered, is_ending, is_late, is_later, may_wait};
+ghost use Rattle.bouncer_run.specs.Hearing.{HasGiven};
 ghost use Rattle.bouncer_run.specs.Moving.{Moves};
 
 use crate::outgoing::{Outgoing, Sent};
@@ -34,6 +35,8 @@ pub enum Reading {
     Done,
     /// The rest has to wait.
     Later,
+    /// As much as is read at once: more may wait.
+    More,
     /// Read to its end, and why the connection is gone.
     Ended(Ending),
 }
@@ -82,7 +85,10 @@ impl<S: Read + Write + Drop> Connection<S> {
 
     /// Reads what came, as much as the buffer takes.
     pub fn read(&mut self, buffer: &mut [u8]) -> Got
-        ensures { is_later result ≡ false }
+        ensures later { is_later result ≡ false }
+        ensures gives { HasGiven (S.remaining self.old.stream) (S.remaining self.new.stream)
+            result buffer.new }
+        ensures rest { self.new ≡ record self.old { stream = self.new.stream } }
     {
         match self.stream.read(buffer) {
             Ok(0) => Got::End(Ending::ByServer),

@@ -29,8 +29,6 @@ pub enum EdgeNews {
     NotJoined(NodeId, String),
     /// The server took the session of this node, with this nick.
     Nick(NodeId, Name),
-    /// A client attached by this name.
-    Named(NodeId, u64, Name),
     /// Standard input ended, which ends the bouncer.
     InputEnded,
 }
@@ -43,8 +41,8 @@ impl EdgeNews {
             EdgeNews::WrongPassword(node, _, _) => Some(*node),
             EdgeNews::Unregistered(node, _, _) => Some(*node),
             EdgeNews::GaveWay(node, _, _) | EdgeNews::Crowded(node, _) => Some(*node),
-            EdgeNews::Deaf(node, _) | EdgeNews::Nick(node, _) => Some(*node),
-            EdgeNews::Named(node, _, _) | EdgeNews::NotJoined(node, _) => Some(*node),
+            EdgeNews::Deaf(node, _) | EdgeNews::NotJoined(node, _) => Some(*node),
+            EdgeNews::Nick(node, _) => Some(*node),
             EdgeNews::Refused(_) | EdgeNews::InputEnded => None,
         }
     }
@@ -74,7 +72,6 @@ impl fmt::Display for EdgeNews {
             EdgeNews::Refused(text) => write!(f, "the server says: {text}"),
             EdgeNews::NotJoined(_, text) => write!(f, "{text}"),
             EdgeNews::Nick(_, nick) => write!(f, "the nick is {}", text_of(nick)),
-            EdgeNews::Named(_, number, name) => write!(f, "client {number} is {}", text_of(name)),
             EdgeNews::InputEnded => write!(f, "standard input ended: stopping"),
         }
     }

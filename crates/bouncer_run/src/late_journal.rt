@@ -39,7 +39,7 @@ pub struct LateJournal<R: Files<File = File> + Eprint + AllocGlobal + Copy> {
 enum LateFault {
     #[error("the file setup beside it is not that of the others: move its folder away, and start again")]
     Setup,
-    #[error("it is older than the others tell: move it away, and start again")]
+    #[error("it is older than the other journals say: move it away, and start again")]
     Older,
     #[error("{0}")]
     Journal(OpenFault),

@@ -28,6 +28,7 @@ mod group;
 mod growth;
 mod guest;
 mod hands;
+mod hearing;
 mod inlet;
 mod inlets;
 mod input;

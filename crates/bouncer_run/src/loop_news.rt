@@ -8,36 +8,10 @@ use crate::gone::tell_gone;
 use crate::operator::Operator;
 use crate::reasons::shown;
 use crate::sockets::Sockets;
-use buffer_commands::Action;
-use driver::{Driver, News, Now, TowerNote};
-use node_notes::Note;
+use driver::{Driver, News, Now};
 use raft_log::NodeId;
-use request_once::Body;
-use std::alloc::{AllocError, Global};
+use std::alloc::Global;
 use wire_bytes::Copied;
-
-/// Logs the name by which a client attached, if this asks that it is attached by one. It may be
-/// asked again, and is logged once.
-pub fn tell_name<O: Operator>(
-    now: &Now,
-    sockets: &mut Sockets,
-    operator: &mut O,
-    note: &TowerNote,
-) -> Result<(), AllocError>
-    ensures clients { sockets.new.clients ≡ sockets.old.clients }
-    ensures server { sockets.new.server ≡ sockets.old.server }
-{
-    let Note::Ask(Body::Asked(origin, _, _, Action::Attach(Some(name)))) = note else {
-        return Ok(());
-    };
-    if sockets.newcomer == Some(*origin) {
-        sockets.newcomer = None;
-        let node = NodeId::new(origin.node());
-        let name = name.copy(sockets.alloc)?;
-        operator.hear_edge(now, EdgeNews::Named(node, origin.client(), name));
-    }
-    Ok(())
-}
 
 /// News are logged, and go to the clients whom they concern.
 pub fn tell_news<O: Operator>(
@@ -54,12 +28,16 @@ pub fn tell_news<O: Operator>(
         return tell_absent(now, driver, sockets.alloc, operator, node, number);
     }
     tell_clients(sockets.alloc, driver, &news)?;
-    if let News::Attached(origin) = news {
+    if let News::Attached(origin, _) = &news {
         sockets.register(origin.client());
-        sockets.newcomer = Some(origin);
     }
+    let opened = match &news {
+        News::Opened(node) => Some(*node),
+        _ => None,
+    };
     tell_operator(now, sockets, operator, news);
-    if let News::Opened(node) = news {
+    // what its welcome said of the nick was heard meanwhile
+    if let Some(node) = opened {
         let nick = driver.nick().copy(sockets.alloc)?;
         operator.hear_edge(now, EdgeNews::Nick(node, nick));
     }

@@ -75,7 +75,7 @@ fn hold_lines<R: Runtime + AllocGlobal>(rt: &R, path: &str, config: &Config) -> 
         return Ok(());
     }
     let _ = eprintln!(rt;
-        "{path}: on_connect: needs lines of IRC, of a command and at most 15 words behind it"
+        "{path}: on_connect: needs lines of IRC, of a command and at most 15 words after it"
     );
     Err(RunFault::Config)
 }

@@ -40,16 +40,15 @@ impl Reasons {
         }
     }
 
-    /// Bytes came, in pieces of any size. Returns what is to be logged of the lines that they end.
-    pub fn hear(&mut self, bytes: &[u8]) -> Result<Vec<EdgeNews>, AllocError> {
-        let mut news = Vec::new(self.alloc);
+    /// Bytes came, in pieces of any size. Adds what is to be logged of the lines that they end.
+    pub fn hear(&mut self, bytes: &[u8], news: &mut Vec<EdgeNews>) -> Result<(), AllocError> {
         for (index, part) in bytes.split(|byte| *byte == b'\n').enumerate() {
             if index > 0 {
-                self.end(&mut news)?;
+                self.end(news)?;
             }
             self.add(part)?;
         }
-        Ok(news)
+        Ok(())
     }
 
     /// A line goes on.

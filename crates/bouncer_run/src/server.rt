@@ -1,9 +1,12 @@
 //! What happens at the sockets goes to the driver.
-ghost use Rattle.std.specs.Prelude.{◌≡◌, None};
+ghost use Rattle.std.specs.Prelude.{◌≡◌, None, OnOk};
+ghost use Rattle.driver.specs.Calls.{Does};
+ghost use Rattle.driver.specs.Calls.Call.{End};
+ghost use Rattle.bouncer_run.specs.Hearing.{IsServerServed};
 
-use crate::connection::{Got, Reading};
+use crate::connection::Reading;
 use crate::event_loop::LoopFault;
-use crate::pieces::{PIECE, PIECES};
+use crate::hearing::hear_server;
 use crate::sockets::{CLIENTS, SERVER, Sockets};
 use driver::{Driver, Ending, Now};
 use mio::{Events, Interest, Token};
@@ -29,7 +32,9 @@ impl Sockets {
     }
 
     /// The server's connection may be read from or written to.
-    pub fn serve_server(&mut self, now: &Now, driver: &mut Driver) -> Result<(), LoopFault> {
+    pub fn serve_server(&mut self, now: &Now, driver: &mut Driver) -> Result<(), LoopFault>
+        ensures { OnOk result (IsServerServed now.now driver.old driver.new) }
+    {
         let Some(connection) = &mut self.server else {
             return Ok(());
         };
@@ -37,44 +42,20 @@ impl Sockets {
             driver.connected(now)?;
         }
         let takes = connection.flush(now.ms);
-        match self.read_server(now, driver)? {
-            Reading::Ended(why) => self.drop_server(now, driver, why),
-            Reading::Done if !takes => self.drop_server(now, driver, Ending::Lost),
-            Reading::Done | Reading::Later => Ok(()),
-        }
-    }
-
-    /// Reads what the server sent, as far as it is to be read.
-    fn read_server(&mut self, now: &Now, driver: &mut Driver) -> Result<Reading, LoopFault> {
-        let mut piece = [0u8; PIECE];
-        for _ in 0..PIECES {
-            match self.next_of_server(driver, &mut piece) {
-                Got::Bytes(count) => {
-                    if let Some(bytes) = piece.get(..count) {
-                        self.tell_reasons(bytes)?;
-                        driver.receive_line(now, bytes)?;
-                    }
-                }
-                Got::Nothing => return Ok(Reading::Done),
-                Got::End(why) => return Ok(Reading::Ended(why)),
-                Got::Later => {
-                    self.queue.join(SERVER)?;
-                    return Ok(Reading::Later);
-                }
+        let reading = hear_server(now, driver, connection, &mut self.reasons, &mut self.news)?;
+        let stays = match reading {
+            Reading::Done => takes,
+            Reading::More => takes && self.watch_server(),
+            Reading::Ended(why) => return self.drop_server(now, driver, why),
+            Reading::Later => {
+                self.queue.join(SERVER)?;
+                true
             }
+        };
+        if stays {
+            return Ok(());
         }
-        if self.watch_server() {
-            return Ok(Reading::Done);
-        }
-        Ok(Reading::Ended(Ending::Lost))
-    }
-
-    /// Why the server refuses is logged, if it says so.
-    fn tell_reasons(&mut self, bytes: &[u8]) -> Result<(), LoopFault> {
-        for news in self.reasons.hear(bytes)? {
-            self.tell(news)?;
-        }
-        Ok(())
+        self.drop_server(now, driver, Ending::Lost)
     }
 
     /// More may wait at the server's connection than was read, so it is queued again. Returns
@@ -99,6 +80,7 @@ impl Sockets {
     ) -> Result<(), LoopFault>
         ensures clients { self.new.clients ≡ self.old.clients }
         ensures gone { self.new.server ≡ None }
+        ensures told { OnOk result (Does (End now.now.ms why) driver.old driver.new) }
     {
         self.server = None;
         driver.close(now, why)?;

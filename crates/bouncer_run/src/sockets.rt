@@ -16,7 +16,6 @@ use std::alloc::{AllocError, Global};
 use std::collections::BTreeMap;
 use std::io;
 use std::net::{Net, SocketAddr};
-use wire_bytes::Origin;
 
 /// The token of what wakes the loop.
 pub const WAKER: usize = 0;
@@ -62,10 +61,8 @@ pub struct Sockets {
     pub leaving: Leaving,
     /// How often it was logged that all places were taken.
     pub crowding: Ration,
-    /// The client that attached last, until the name by which it did is logged.
-    pub newcomer: Option<Origin>,
     /// What is still to be logged.
-    news: Vec<EdgeNews>,
+    pub news: Vec<EdgeNews>,
 }
 
 impl Sockets {
@@ -82,7 +79,6 @@ impl Sockets {
             queue: Queue::new(alloc),
             leaving: Leaving::new(alloc),
             crowding: Ration::new(),
-            newcomer: None,
             news: Vec::new(alloc),
         })
     }

@@ -28,7 +28,7 @@ pub fn tell_settled<R: System>(rt: &R, config: &Config, settled: &Settled) {
         Settled::Changed(keys, renewed) => {
             let (before, old) = (renewed.before.value(), &renewed.old);
             eprintln!(rt;
-                "{folders}: {keys} changed: the log of {before} entries was begun anew, and {} {old}",
+                "{folders}: {keys} changed: the log of {before} entries was renewed, and {} {old}",
                 folders.old()
             )
         }
@@ -36,7 +36,7 @@ pub fn tell_settled<R: System>(rt: &R, config: &Config, settled: &Settled) {
         Settled::Long(renewed) => {
             let (before, old) = (renewed.before.value(), &renewed.old);
             eprintln!(rt;
-                "{folders}: the log had {before} entries: it was begun anew, and {} {old}",
+                "{folders}: the log had {before} entries: it was renewed, and {} {old}",
                 folders.old()
             )
         }
@@ -47,7 +47,7 @@ pub fn tell_settled<R: System>(rt: &R, config: &Config, settled: &Settled) {
     };
 }
 
-/// Says that the log of a store was begun anew because journals of it were lost, and whether these
+/// Says that the log of a store was renewed because journals of it were lost, and whether these
 /// keys changed too.
 fn tell_lost<R: System>(
     rt: &R,
@@ -60,7 +60,7 @@ fn tell_lost<R: System>(
         eprintln!(rt; "{folders}: {keys} changed")?;
     }
     eprintln!(rt;
-        "{folders}: {lost}: the log of {before} entries was begun anew from the others, and {} {old}",
+        "{folders}: {lost}: the log of {before} entries was renewed from the others, and {} {old}",
         folders.old()
     )
 }
