@@ -1,5 +1,5 @@
 -- What a worker has reported, and what is still to be reported.
-use Rattle.std.specs.Prelude.{◌≡◌, ◌⊎◌, ℕ, length, false, List, Option, Some, None}
+use Rattle.std.specs.Prelude.{◌≡◌, ◌⊎◌, ℕ, length, false, List, [], Option, Some, None}
 use Rattle.node_cells.specs.Cells.{CellParts}
 use Rattle.node_notes.specs.declared.progress.Progress.{Progress}
 use Rattle.node_notes.specs.declared.report.Report.{Report}
@@ -45,4 +45,12 @@ module _ {M G O A L T P S C E : Type 0} where
   pub record IsKnown (stands_so : Told → Type 0) (w : WorkerLoop M G O A L T P S C E) : Type 0 where
     pub now : Told
     pub stands : stands_so now
+    pub known : (w.told ≡ Some now) ⊎ (HasGrownAlone w.told now × (w.has_untold_beat ≡ false))
+
+  -- All effects were reported, and the last report gives the state of the node as it is; or since then only the log
+  -- grew, and no beat is unreported.
+  pub record HasReportedAll {Hosted Store U : Type 0} (next_claim : S → List (ℕ × C) → Option ℕ) (c : CellParts S Hosted Store C L T E P U) (w : WorkerLoop M G O A L T P S C E) : Type 0 where
+    pub now : Told
+    pub none_left : w.round.effects.items ≡ []
+    pub status_is : IsStatusOf next_claim c now.status
     pub known : (w.told ≡ Some now) ⊎ (HasGrownAlone w.told now × (w.has_untold_beat ≡ false))

@@ -1,5 +1,5 @@
 -- What a worker does with its node's cell.
-use Rattle.std.specs.Prelude.{◌≡◌, ◌↔◌, ◌⊎◌, ◌++◌, ◌&&◌, not, ℕ, zero, suc, Bool, true, false, List, [], ◌∷◌, take, Option, None, Some, Result, Ok, Err, option_map}
+use Rattle.std.specs.Prelude.{◌≡◌, ◌≢◌, ◌≤◌, ◌↔◌, ◌⊎◌, ◌++◌, ◌&&◌, not, ℕ, zero, suc, Bool, true, false, List, [], ◌∷◌, take, Option, None, Some, Result, Ok, Err, option_map}
 use Rattle.wire_bytes.specs.declared.mark.Mark.{Mark}
 use Rattle.raft_log.specs.Batches.{batch_limit}
 use Rattle.raft_node.specs.declared.input.Looked.{Looked as PlayedAt}
@@ -9,7 +9,9 @@ use Rattle.world_views.specs.Inputs.{NodeInput}
 use Rattle.raft_node.specs.declared.input.Input.TheVariants as input
 use Rattle.node_cells.specs.declared.mark_turn.MarkTurn.{MarkTurn}
 use Rattle.node_cells.specs.Marking.{HasLookedAfter, HasMarked}
+use Rattle.node_cells.specs.Cells.{CellParts}
 use Rattle.node_cells.specs.declared.cell_fault.CellFault.{CellFault}
+use Rattle.node_cells.specs.declared.phase.Phase.TheVariants.{Up}
 use Rattle.node_cells.specs.declared.record.TurnOutput.{TurnOutput}
 use Rattle.node_cells.specs.Openings.{HasTakenIn}
 use Rattle.node_cells.specs.Restarts.{HasRestarted}
@@ -77,6 +79,10 @@ abbrev pub number_in : {B E : Type 0} → Result (MarkTurn B E) CellFault → Re
 number_in (Ok asked) = Ok asked.number
 number_in (Err fault) = Err fault
 
+-- nothing that is agreed is left to apply: the node of a cell is down, or has applied all of it
+abbrev pub AppliesNone : {Setup Hosted Store B L T E P U : Type 0} → CellParts Setup Hosted Store B L T E P U → Type 0
+AppliesNone c = (c.phase ≢ Up) ⊎ (c.node.state.standing.commit ≤ c.node.state.standing.applied)
+
 module _ (M : Machine) {Setup Hosted Store U : Type 0} where
   -- the node was started again, or was not
   abbrev pub HasTriedAgain : CellOf M Setup Hosted Store U → CellOf M Setup Hosted Store U → Type 0
@@ -93,6 +99,11 @@ module _ (M : Machine) {Setup Hosted Store U : Type 0} where
     pub record HasHadTurn (c : CellOf M Setup Hosted Store U) (x : NodeInput M.Body M.Line) (d : CellOf M Setup Hosted Store U) : Type 0 where
       pub answer : Result (TurnOutput M.Body M.Effect) CellFault
       pub turned : HasTurned M tally c x answer d
+
+    -- one turn of the cell with this input, which did nothing
+    pub record HasFailed (c : CellOf M Setup Hosted Store U) (x : NodeInput M.Body M.Line) (d : CellOf M Setup Hosted Store U) : Type 0 where
+      pub fault : CellFault
+      pub turned : HasTurned M tally c x (Err fault) d
 
     -- and what it gave was gathered
     pub record HasGathered (c : CellOf M Setup Hosted Store U) (x : NodeInput M.Body M.Line) (old : Round M.Effect) (forwarded : Option ℕ) (requests : Queue M.Body)
@@ -189,8 +200,15 @@ module _ (M : Machine) {Setup Hosted Store U : Type 0} where
     abbrev pub HasApplied : CellOf M Setup Hosted Store U → CellOf M Setup Hosted Store U → Type 0
     HasApplied c d = (n : ℕ) × Does (applies n) c d
 
-    abbrev pub HasAppliedSo : ℕ → CellOf M Setup Hosted Store U → CellOf M Setup Hosted Store U → Type 0
-    HasAppliedSo many c d = (n : ℕ) × (n ≡ many) × Does (applies n) c d
+    -- Why a round stops applying, after this many places: nothing is left, a turn did nothing, or no round applies more,
+    -- and some may be left.
+    abbrev pub StopsApplying : ℕ → Bool → CellOf M Setup Hosted Store U → CellOf M Setup Hosted Store U → Type 0
+    StopsApplying count is_all c d =
+        ((is_all ≡ true) × AppliesNone c × (d ≡ c)) ⊎ HasFailed c input.Apply d ⊎ ((is_all ≡ false) × (count ≡ apply_limit) × (d ≡ c))
+
+    -- places were applied, one after the other, until it stopped
+    abbrev pub HasAppliedOn : CellOf M Setup Hosted Store U → Bool → CellOf M Setup Hosted Store U → Type 0
+    HasAppliedOn c is_all d = (n : ℕ) × (b : CellOf M Setup Hosted Store U) × Does (applies n) c b × StopsApplying n is_all b d
 
     -- All mailboxes were taken. Then the node asked for votes, if it does not lead and had heard few enough times of a
     -- leader.
@@ -243,6 +261,7 @@ module _ (M : Machine) {Setup Hosted Store U : Type 0} where
       pub taken_back : HaveComeBack account_first account_heard
       pub asks : HasAskedOn account_heard heard all_asked account_asked asked
       pub applies_on : HasApplied asked applied
+      pub stops_applying : HasAppliedOn asked all_applied applied
       pub beats : HasBeaten has_news applied d
       pub come_back : HaveComeBack account_asked b
       pub leaves_nothing_is : leaves_nothing ≡ (all_asked && (all_applied && all_told))

@@ -4,6 +4,7 @@ ghost use Rattle.node_threads.specs.Homes.{IsSameHome};
 ghost use Rattle.node_threads.specs.Reports.{has_grown, is_news};
 ghost use Rattle.node_threads.specs.Served.{HasWorkedOff};
 ghost use Rattle.node_threads.specs.Taking.{HasDoneRound};
+ghost use Rattle.node_threads.specs.Telling.{HasReportedAll};
 ghost use Rattle.node_threads.specs.Waiting.{HaveComeBack, account_of};
 ghost use Rattle.node_threads.specs.Work.{HasBeaten, HasGoneRound};
 
@@ -111,6 +112,8 @@ impl<M: Marking, G: Gate + Drop, O: Outlet<M::Effect>> WorkerLoop<M, G, O> {
             M.marked M.mark I.gives self.old.may_wait inbox.old (account_of self.old)
             cell.old.parts result self.new.may_wait inbox.new (account_of self.new)
             cell.new.parts }
+        ensures reported { self.new.may_wait ≡ true
+            → HasReportedAll M.next_claim cell.new.parts self.new }
     {
         let may_wait = self.may_wait;
         let is_over = self.do_jobs(rt, cell, inbox, may_wait);
@@ -125,9 +128,11 @@ impl<M: Marking, G: Gate + Drop, O: Outlet<M::Effect>> WorkerLoop<M, G, O> {
         rt: &R,
         cell: &mut NodeCell<M, S, U>,
     ) -> bool
-        ensures { HasGoneRound (⟦<M as Described>⟧.machine cell.old.parts.ether.setup) U.tally
+        ensures gone { HasGoneRound (⟦<M as Described>⟧.machine cell.old.parts.ether.setup) U.tally
             self.old.forwarded (account_of self.old) cell.old.parts result
             (account_of self.new) cell.new.parts }
+        ensures reported { result ≡ true
+            → HasReportedAll M.next_claim cell.new.parts self.new }
     {
         self.ask_before(rt, cell);
         let left = self.leader_left(cell);
@@ -188,7 +193,10 @@ impl<M: Marking, G: Gate + Drop, O: Outlet<M::Effect>> WorkerLoop<M, G, O> {
 
     /// Wakes the workers of the nodes that were posted to, or whose answer was taken.
     fn wake_all<R: Wait>(&mut self, rt: &R)
-        ensures { account_of self.new ≡ account_of self.old }
+        ensures requests { account_of self.new ≡ account_of self.old }
+        ensures only { self.new ≡ record self.old {
+          round = record self.old.round { woken = self.new.round.woken };
+        } }
     {
         for place in 0..MOST_NODES {
             if self.round.woken[place as usize] {

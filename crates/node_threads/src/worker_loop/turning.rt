@@ -1,12 +1,12 @@
 //! The turns of a worker's node.
-ghost use Rattle.std.specs.Prelude.{◌≡◌, [], false};
+ghost use Rattle.std.specs.Prelude.{◌≡◌, false};
 ghost use Rattle.world_views.specs.Views.{carries};
 ghost use Rattle.node_cells.specs.Cells.{HasHeard, view_in};
 ghost use Rattle.node_threads.specs.Asking.{leader_in, term_in};
 ghost use Rattle.node_threads.specs.Requests.{queue_of};
 ghost use Rattle.node_threads.specs.Rounds.{Gathers};
 ghost use Rattle.node_threads.specs.Waiting.{AreBack, ComesBack, HaveComeBack, account_of, brought_back};
-ghost use Rattle.node_threads.specs.Work.{HasApplied, HasAppliedSo, HasGathered, HasGatheredMark, HasHadTurn, HasMarkedOne, apply_limit};
+ghost use Rattle.node_threads.specs.Work.{HasApplied, HasAppliedOn, HasFailed, HasGathered, HasGatheredMark, HasHadTurn, HasMarkedOne};
 
 use crate::gate::{Gate, pass_gate};
 use crate::outlet::Outlet;
@@ -41,6 +41,9 @@ impl<M: Marking, G: Gate + Drop, O: Outlet<M::Effect>> WorkerLoop<M, G, O> {
             U.tally cell.old.parts input self.old.round self.old.forwarded
             (queue_of self.old.requests) cell.new.parts self.new.round self.new.forwarded
             (queue_of self.new.requests) }
+        ensures failed { result ≡ false → HasFailed
+            (⟦<M as Described>⟧.machine cell.old.parts.ether.setup) U.tally cell.old.parts input
+            cell.new.parts }
         ensures requests { HaveComeBack (account_of self.old) (account_of self.new) }
         ensures contacts { self.new.contacts ≡ self.old.contacts }
         ensures beat { self.new.has_untold_beat ≡ self.old.has_untold_beat }
@@ -164,9 +167,8 @@ impl<M: Marking, G: Gate + Drop, O: Outlet<M::Effect>> WorkerLoop<M, G, O> {
     ) -> bool
         ensures applied { HasApplied (⟦<M as Described>⟧.machine cell.old.parts.ether.setup) U.tally
             cell.old.parts cell.new.parts }
-        ensures many { result ≡ false → self.new.round.further.items ≡ [] → HasAppliedSo
-            (⟦<M as Described>⟧.machine cell.old.parts.ether.setup) U.tally apply_limit
-            cell.old.parts cell.new.parts }
+        ensures stops { HasAppliedOn (⟦<M as Described>⟧.machine cell.old.parts.ether.setup)
+            U.tally cell.old.parts result cell.new.parts }
         ensures requests { HaveComeBack (account_of self.old) (account_of self.new) }
     {
         for count in 0..MOST_APPLIED {

@@ -22,7 +22,7 @@ returns-clause-home g c =
     let new = c.go_round-all_done.new.cell.parts in
     let tally = g.U.Upstream.tally in
     let one = home_after_given (machine g old.ether.setup) tally g.M.Marking.marked g.M.Hosted.mark g.I.Inflow.gives c.args.self.now.may_wait [] c.args.inbox.now (account_of c.args.self.now) old jobs.result jobs.new.inbox (account_of jobs.new.self) between jobs.ensures in
-    let two = home_after_round (machine g between.ether.setup) tally jobs.new.self.forwarded (account_of jobs.new.self) between c.go_round-all_done.result (account_of c.go_round-all_done.new.self) new c.go_round-all_done.ensures in
+    let two = home_after_round (machine g between.ether.setup) tally jobs.new.self.forwarded (account_of jobs.new.self) between c.go_round-all_done.result (account_of c.go_round-all_done.new.self) new c.go_round-all_done.ensures.gone in
     same_home_still old between new one two
 
 pub returns-clause-round : goal.returns-clause-round
@@ -41,6 +41,11 @@ returns-clause-round g c =
       forwarded = forwarded;
       account = account;
       jobs = jobs.ensures;
-      rest = subst (λ (s : g.row.M-Setup.Denot). HasGoneRound (machine g s) tally forwarded account between c.go_round-all_done.result (account_of c.go_round-all_done.new.self) new) (ap (λ e. e.setup) home.ether) c.go_round-all_done.ensures;
+      rest = subst (λ (s : g.row.M-Setup.Denot). HasGoneRound (machine g s) tally forwarded account between c.go_round-all_done.result (account_of c.go_round-all_done.new.self) new) (ap (λ e. e.setup) home.ether) c.go_round-all_done.ensures.gone;
       goes_on_is = refl;
     }
+
+pub returns-clause-reported : goal.returns-clause-reported
+returns-clause-reported g c = λ yes.
+    let told = c.go_round-all_done.ensures.reported yes in
+    record { now = told.now; none_left = told.none_left; status_is = told.status_is; known = told.known }
