@@ -104,7 +104,7 @@ def named(room):
     hears(plain_one, gus)
     check("a client without a name is played everything kept", lines(plain_one) == said, (lines(plain_one), said))
     log = bouncer.log()
-    check("the log says who attached", " is phone" in log and " is laptop" in log and "pw" not in log, log[-2000:])
+    check("the log says who attached", " attached as phone" in log and " attached as laptop" in log and "pw" not in log, log[-2000:])
     check("it ends", bouncer.end() == 0)
     gus.close()
 

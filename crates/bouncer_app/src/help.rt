@@ -18,14 +18,14 @@ pub const HELP: &str = "\
 bouncer keeps you on IRC while you are away. Words, each with an example:
 
   init FOLDER   writes a first configuration, with a password of its own; asks for a
-                nick, a server and channels, where they do not stand behind it
+                nick, a server and channels that are not given after it
                   bouncer init hukbarg
   run CONFIG    runs the bouncer of a configuration, until standard input ends
                   bouncer run examples/hukbarg.toml
   check CONFIG  says what run would do, and warns as it would; changes nothing
                   bouncer check examples/hukbarg.toml
-  renew CONFIG  begins a log anew that is full or nearly so; what was kept is kept;
-                with --forget NAME behind it without the name of a client
+  renew CONFIG  renews a log that is full or nearly so; what was kept is kept;
+                with --forget NAME after it, without the name of a client
                   bouncer renew examples/hukbarg.toml
   fold          shows what clients see of the commands on standard input
                   bouncer fold < examples/playback.hex

@@ -27,7 +27,7 @@ listen = [\"127.0.0.1:6701\", \"127.0.0.1:6702\", \"127.0.0.1:6703\"]
 
 # The folder of the nodes' journals, or a list with a folder for each node, so that each may be on a disk of its own. A folder
 # is made if it is missing, the one around it is not. Node N's journal is the file `node-N`. A path that does not begin with /
-# goes by the folder of this file.
+# is relative to the folder of this file.
 store = \"store\"
 
 # What the server is sent in PASS, if it asks for a password.
@@ -71,8 +71,7 @@ beat_ms = 100
 # After how many milliseconds without a leader another one is elected, 50 to 60000.
 timeout_ms = 1000
 
-# How many lines go to the server at once, 1 to 100, and how many milliseconds each further one waits, 0 to 60000; 0 is not at
-# all.
+# How many lines go to the server at once, 1 to 100, and how many milliseconds each further one waits, 0 to 60000.
 flood_burst = 5
 flood_ms = 2000
 
@@ -83,6 +82,6 @@ log = \"info\"
 # read, and the bouncer runs until it is killed (for nohup, cron and containers).
 input = \"stop\"
 
-# A start over a log of more entries than this begins it anew, so that it never gets full: up to 1000000, 0 is never.
+# A start over a log of more entries than this renews it, so that it never gets full: up to 1000000, 0 is never.
 renew_at = 0
 ";

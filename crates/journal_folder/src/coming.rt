@@ -75,17 +75,17 @@ impl fmt::Display for Foretold {
             )?,
             Coming::Same => f.write_str("store: the same setup")?,
             Coming::Changed(keys) => {
-                write!(f, "store: the log will be begun anew, since {keys} changed")?
+                write!(f, "store: the log will be renewed, since {keys} changed")?
             }
             Coming::Lost(lost, keys) => {
-                write!(f, "store: the log will be begun anew, since {lost}")?;
+                write!(f, "store: the log will be renewed, since {lost}")?;
                 if !keys.is_none() {
                     write!(f, ", and since {keys} changed")?;
                 }
             }
             Coming::Long(entries) => write!(
                 f,
-                "store: the log will be begun anew, since it has {entries} entries"
+                "store: the log will be renewed, since it has {entries} entries"
             )?,
             Coming::StaysLong(fault) => {
                 write!(f, "store: the log is long, and stays so: {fault}")?

@@ -52,16 +52,16 @@ pub enum RenewFault {
     #[error("{0}")]
     Renewal(RenewalFault),
     /// The log can't be renewed, which it would have to be since the values of these keys changed.
-    #[error("{0} changed, and the log can't be begun anew for that: {1}; with the old values it goes on")]
+    #[error("{0} changed, and the log can't be renewed for that: {1}; with the old values it goes on")]
     Change(ChangedKeys, RenewalFault),
     /// The log can't be renewed, which it would have to be since these journals are lost.
-    #[error("{0}, and the log can't be begun anew from the others: {1}")]
+    #[error("{0}, and the log can't be renewed from the others: {1}")]
     Loss(LostJournals, RenewalFault),
     /// The new log would not be short enough.
     #[error("the new log would still have {0} entries: set renew_at higher")]
     StillLong(Number),
     /// Terms or runs have reached their limit.
-    #[error("no terms or runs are left: move the folder of the journals away, and start the bouncer anew")]
+    #[error("no terms or runs are left: move the folder of the journals away: the next start makes a new one")]
     Spent,
     #[error("out of memory")]
     Memory,

@@ -8,7 +8,7 @@ pub enum Mixed {
     #[error("{0}: its node's folder is {1}, so nothing was changed: move the journal there, and copy the file setup there too")]
     Misplaced(String, String),
     /// These two files describe different stores, or one store at different times.
-    #[error("{0} and {1} differ: one of the two folders is of another store, or is an older copy, and nothing was changed: move what lies in that one away, and its journal is made anew from the others")]
+    #[error("{0} and {1} differ: one of the two folders is of another store, or is an older copy, and nothing was changed: move what lies in that one away, and its journal is made again from the others")]
     Differ(String, String),
     /// There is a journal beside the first file, which is missing, while the second one exists.
     #[error("{0} is missing beside a journal, so nothing was changed: copy {1} there, if the journal is of that store, or move the journal away")]

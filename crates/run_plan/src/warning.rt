@@ -33,7 +33,7 @@ impl fmt::Display for Warning {
                 "timeout_ms is less than three times beat_ms: no leader may last"
             }
             Warning::NickIsTakenNowhere => {
-                "nick: servers refuse it: it needs a letter or one of []\\`_^{|} first, and behind it those, digits and -"
+                "nick: servers refuse it: it has to begin with a letter or one of []\\`_^{|}, and the rest may also be digits and -"
             }
             Warning::PasswordIsKnown => {
                 "password: it is that of the example, which everybody knows: choose one of your own"
