@@ -13,7 +13,7 @@ use Rattle.node_threads.specs.declared.job.Job.TheVariants as job
 use Rattle.node_threads.specs.Homes.{IsSameHome}
 use Rattle.node_threads.specs.Forwarding.{is_left}
 use Rattle.node_threads.specs.Waiting.{Account}
-use Rattle.node_threads.specs.Work.{Deed, Does, HasDeed, HasDone, HasDoneNote, HasGoneRound, HasHadTurn, HasLookedIn, HasTaken, HasTakenBut, HasTimedOut, HasTurnedIn, applies, takes_but, takes_unless}
+use Rattle.node_threads.specs.Work.{Deed, Does, HasDeed, HasDone, HasDoneNote, IsTimedOutBy, HasGoneRound, HasHadTurn, HasLookedIn, HasTaken, HasTakenBut, HasTimedOut, HasTurnedIn, applies, takes_but, takes_unless}
 use Rattle.node_threads.specs.Work.Deed.{Takes, Turns}
 use Rattle.node_threads.proofs.Home.{home_after_input, home_after_look, home_after_restart, home_after_take, same_home, same_home_still}
 use Rattle.node_threads.proofs.Seen.{home_asked, home_before, home_left}
@@ -97,6 +97,9 @@ module _ (M : Machine) {Setup Hosted Store U : Type 0} (tally : U → Tally) whe
   -- a note that is this one was done
   pub note_as : (n m : Note M.Body M.Line) (c d : CellOf M Setup Hosted Store U) → n ≡ m → HasDoneNote M tally m c d → HasDoneNote M tally n c d
   note_as n m c d is h = subst (λ (z : Note M.Body M.Line). HasDoneNote M tally z c d) (sym is) h
+
+  pub timed_as : (heard : ℕ) (n m : Note M.Body M.Line) (c d : CellOf M Setup Hosted Store U) → n ≡ m → IsTimedOutBy M tally heard m c d → IsTimedOutBy M tally heard n c d
+  timed_as heard n m c d is h = subst (λ (z : Note M.Body M.Line). IsTimedOutBy M tally heard z c d) (sym is) h
 
   module _ (marked : M.Body → Option Mark) (mark : Mark → M.Body) {Action : Type 0} where
     pub home_after_job : (j : Job Hosted Action M.Line M.Target M.Played Setup M.Body M.Effect) (c d : CellOf M Setup Hosted Store U) → HasDone M tally marked mark j c d → IsSameHome c d

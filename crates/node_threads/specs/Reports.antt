@@ -153,6 +153,11 @@ abbrev pub is_news : {Setup Hosted Store B L T E P U : Type 0} → Beats → Opt
 is_news beats beaten is_behind c =
     is_on_news beats && (leads_in c && has_grown beaten is_behind c.node.state.standing.term (length c.node.state.log) c.node.state.standing.commit)
 
+-- what a leader had is kept when it has sent, and no answer is known that lags since
+pub record HasKept {Setup Hosted Store B L T E P U : Type 0} (c : CellParts Setup Hosted Store B L T E P U) (beaten : Option Beaten) (is_behind : Bool) : Type 0 where
+  pub what : beaten ≡ Some (record { term = c.node.state.standing.term; last = length c.node.state.log; commit = c.node.state.standing.commit })
+  pub behind : is_behind ≡ false
+
 -- the first part of what was to be reported was, in order, and the rest still is to be
 abbrev pub TellsFirst : {E : Type 0} → List E → List E → Type 0
 TellsFirst {E} old new = (told : List E) × (old ≡ told ++ new)

@@ -1,5 +1,5 @@
 -- What a round of a worker gathers.
-use Rattle.std.specs.Prelude.{◌≡◌, ℕ, Bool, true, false, nat_le, nat_lt, not, ◌&&◌, ◌||◌, List, [], ◌∷◌, ◌++◌, filter, Option, Some, None, Result, Ok, Err}
+use Rattle.std.specs.Prelude.{◌≡◌, ℕ, Bool, true, false, nat_le, nat_lt, not, ◌&&◌, ◌||◌, List, [], ◌∷◌, ◌++◌, replicate, filter, Option, Some, None, Result, Ok, Err}
 use Rattle.machine_laws.specs.declared.class.Class.{Class}
 use Rattle.machine_laws.specs.declared.class.Class.TheVariants.{To, Hand, Rejoin, Nowhere}
 use Rattle.raft_log.specs.declared.message.Kind.{Kind}
@@ -38,6 +38,10 @@ leaving r = r.effects.items ++ r.further.items
 abbrev pub first_fault : Option NodeFault → NodeFault → NodeFault
 first_fault None fault = fault
 first_fault (Some first) fault = first
+
+-- no node is to look into its mailboxes
+abbrev pub none_woken : List Bool
+none_woken = replicate 7 false
 
 -- these nodes are to look into their mailboxes, too
 abbrev pub woken_by : List Bool → List ℕ → List Bool
@@ -104,6 +108,11 @@ module _ {B : Type 0} where
   lags (Append batch) last = false
   lags (AppendReply ok place) last = not ok || nat_lt place last
   lags (Forward body) last = false
+
+  -- the node whose answer a message is, if it is one
+  abbrev pub answerer : Kind B → ℕ → List ℕ
+  answerer (AppendReply ok place) from = from ∷ []
+  answerer kind from = []
 
   -- an answer of this term that says so
   abbrev pub is_behind : Message B → ℕ → ℕ → Bool

@@ -1,5 +1,5 @@
 -- What a worker does with its node's cell.
-use Rattle.std.specs.Prelude.{◌≡◌, ◌≢◌, ◌≤◌, ◌↔◌, ◌⊎◌, ◌++◌, ◌&&◌, not, ℕ, zero, suc, Bool, true, false, List, [], ◌∷◌, take, Option, None, Some, Result, Ok, Err, option_map}
+use Rattle.std.specs.Prelude.{◌≡◌, ◌≢◌, ◌≤◌, ◌↔◌, ◌⊎◌, ◌++◌, ◌&&◌, not, ℕ, zero, suc, Bool, true, false, List, [], ◌∷◌, take, Option, None, Some, Result, Ok, Err, option_map, nat_le, ⊤}
 use Rattle.wire_bytes.specs.declared.mark.Mark.{Mark}
 use Rattle.raft_log.specs.Batches.{batch_limit}
 use Rattle.raft_node.specs.declared.input.Looked.{Looked as PlayedAt}
@@ -229,6 +229,11 @@ module _ (M : Machine) {Setup Hosted Store U : Type 0} where
     HasDoneNote note.Wake c d = d ≡ c
     HasDoneNote note.Restart c d = HasTriedAgain c d
     HasDoneNote note.End c d = d ≡ c
+
+    -- whether a node asks for votes after a timeout depends on how often it has heard of a leader by then
+    abbrev pub IsTimedOutBy : ℕ → Note M.Body M.Line → CellOf M Setup Hosted Store U → CellOf M Setup Hosted Store U → Type 0
+    IsTimedOutBy heard (note.Timeout contacts) c d = HasTimedOut (nat_le heard contacts) c d
+    IsTimedOutBy heard note c d = ⊤
 
     -- the node beats, if there is news
     abbrev pub HasBeaten : Bool → CellOf M Setup Hosted Store U → CellOf M Setup Hosted Store U → Type 0

@@ -1,12 +1,14 @@
 //! What a worker has besides its node's cell and its inbox, and what it does with them, in rounds.
-ghost use Rattle.std.specs.Prelude.{◌≡◌, ◌&&◌, false, length, true};
+ghost use Rattle.std.specs.Prelude.{◌≡◌, ◌&&◌, ◌⊎◌, IsTrue, false, length, true};
+ghost use Rattle.raft_node.specs.declared.input.Input.TheVariants.{Beat};
 ghost use Rattle.node_threads.specs.Homes.{IsSameHome};
-ghost use Rattle.node_threads.specs.Reports.{has_grown, is_news};
+ghost use Rattle.node_threads.specs.Reports.{HasKept, has_grown, is_news};
+ghost use Rattle.node_threads.specs.Rounds.{none_woken};
 ghost use Rattle.node_threads.specs.Served.{HasWorkedOff};
 ghost use Rattle.node_threads.specs.Taking.{HasDoneRound};
 ghost use Rattle.node_threads.specs.Telling.{HasReportedAll};
 ghost use Rattle.node_threads.specs.Waiting.{HaveComeBack, account_of};
-ghost use Rattle.node_threads.specs.Work.{HasBeaten, HasGoneRound};
+ghost use Rattle.node_threads.specs.Work.{HasBeaten, HasFailed, HasGoneRound};
 
 use crate::beats::Beats;
 use crate::gate::Gate;
@@ -155,16 +157,21 @@ impl<M: Marking, G: Gate + Drop, O: Outlet<M::Effect>> WorkerLoop<M, G, O> {
         ensures beaten { HasBeaten (⟦<M as Described>⟧.machine cell.old.parts.ether.setup) U.tally
             (is_news self.old.beats self.old.beaten self.old.round.is_behind cell.old.parts)
             cell.old.parts cell.new.parts }
+        ensures kept { IsTrue (is_news self.old.beats self.old.beaten self.old.round.is_behind
+            cell.old.parts)
+            → HasFailed (⟦<M as Described>⟧.machine cell.old.parts.ether.setup) U.tally
+            cell.old.parts Beat cell.new.parts
+            ⊎ HasKept cell.old.parts self.new.beaten self.new.round.is_behind }
         ensures requests { HaveComeBack (account_of self.old) (account_of self.new) }
     {
         if !self.has_news(cell) {
             return;
         }
-        let standing = cell.state().standing;
+        let state = cell.state();
         let beaten = Beaten {
-            term: standing.term,
-            last: cell.state().log.len(),
-            commit: standing.commit,
+            term: state.standing.term,
+            last: state.log.len(),
+            commit: state.standing.commit,
         };
         if self.turn(rt, cell, NodeInput::Beat) {
             self.beaten = Some(beaten);
@@ -195,7 +202,7 @@ impl<M: Marking, G: Gate + Drop, O: Outlet<M::Effect>> WorkerLoop<M, G, O> {
     fn wake_all<R: Wait>(&mut self, rt: &R)
         ensures requests { account_of self.new ≡ account_of self.old }
         ensures only { self.new ≡ record self.old {
-          round = record self.old.round { woken = self.new.round.woken };
+          round = record self.old.round { woken = none_woken };
         } }
     {
         for place in 0..MOST_NODES {

@@ -1,5 +1,5 @@
 //! The workers of a cluster. A node whose store is there is opened before any thread begins.
-ghost use Rattle.std.specs.Prelude.{◌≡◌, ◌<◌, ◌≤◌, [], suc, length, IfOk, IfErr};
+ghost use Rattle.std.specs.Prelude.{◌≡◌, ◌<◌, ◌≤◌, [], None, false, suc, length, IfOk, IfErr};
 ghost use Rattle.std.specs.Arc.{arc_value};
 ghost use Rattle.node_threads.specs.declared.cluster_fault.ClusterFault.TheVariants.{Memory};
 ghost use Rattle.ether.specs.Passes.{AreNew};
@@ -7,6 +7,7 @@ ghost use Rattle.node_cells.specs.Unopened.{IsUntouched};
 ghost use Rattle.raft_node.specs.Parts.{keeper};
 ghost use Rattle.node_threads.specs.Homes.{AllFrom};
 ghost use Rattle.node_threads.specs.Places.{IsBegunBy, IsBegunOver, IsNoBeginning, IsNotBegun};
+ghost use Rattle.node_threads.specs.Waiting.{account_of};
 
 use crate::beats::Beats;
 use crate::cluster_fault::ClusterFault;
@@ -180,7 +181,10 @@ fn worker_loop<M: Marking, G: Drop, O: Outlet<M::Effect>>(
     outlet: O,
     ends: &Inboxes<Job<M>>,
 ) -> Result<WorkerLoop<M, G, O>, ClusterFault>
-    ensures { IfErr result (λ e. e ≡ Memory) }
+    ensures fault { IfErr result (λ e. e ≡ Memory) }
+    ensures account { IfOk result (λ w. account_of w
+        ≡ record { done = 0; requests = record { waiting = []; asked = None; lost = 0 } }) }
+    ensures waits { IfOk result (λ w. w.may_wait ≡ false) }
 {
     let others = clones(&ends.inboxes)?;
     let Ok(gate) = Arc::try_clone(gate) else {

@@ -5,7 +5,7 @@ ghost use Rattle.node_threads.specs.Reports.{is_told, leads_in};
 ghost use Rattle.node_threads.specs.Taking.{HasDoneGiven, gathered_piece};
 ghost use Rattle.node_threads.specs.Together.{AreReady};
 ghost use Rattle.node_threads.specs.Waiting.{HaveComeBack, HeedsJob, HeedsNote, account_of, counted};
-ghost use Rattle.node_threads.specs.Work.{HasDone, HasDoneNote, HasTimedOut};
+ghost use Rattle.node_threads.specs.Work.{HasDone, HasDoneNote, HasTimedOut, IsTimedOutBy};
 
 use crate::gate::Gate;
 use crate::inflow::{Inflow, Next};
@@ -135,6 +135,8 @@ impl<M: Marking, G: Gate + Drop, O: Outlet<M::Effect>> WorkerLoop<M, G, O> {
     )
         ensures done { HasDoneNote (⟦<M as Described>⟧.machine cell.old.parts.ether.setup) U.tally
             note cell.old.parts cell.new.parts }
+        ensures timeout { IsTimedOutBy (⟦<M as Described>⟧.machine cell.old.parts.ether.setup)
+            U.tally self.new.contacts note cell.old.parts cell.new.parts }
         ensures beat { note ≡ Beat → self.new.has_untold_beat ≡ true }
         ensures requests { HeedsNote note (account_of self.old) (account_of self.new) }
     {

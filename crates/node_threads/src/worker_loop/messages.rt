@@ -2,7 +2,7 @@
 ghost use Rattle.std.specs.Prelude.{◌≡◌, ◌<◌, ◌+◌, ◌^◌, ◌-◌, ◌||◌, min, IfSome, length, if◌then◌else◌};
 ghost use Rattle.world_views.specs.Views.{carries};
 ghost use Rattle.node_cells.specs.Cells.{HasHeard, view_in};
-ghost use Rattle.node_threads.specs.Rounds.{is_behind, is_led};
+ghost use Rattle.node_threads.specs.Rounds.{answerer, is_behind, is_led, woken_by};
 ghost use Rattle.node_threads.specs.Waiting.{HaveComeBack, account_of};
 ghost use Rattle.node_threads.specs.Work.{Does, HasLookedIn, HasTaken, HasTakenBut, takes_unless};
 
@@ -96,6 +96,8 @@ impl<M: Marking, G: Gate + Drop, O: Outlet<M::Effect>> WorkerLoop<M, G, O> {
         ensures behind { self.new.round.is_behind ≡ (self.old.round.is_behind
             || is_behind message.now cell.now.parts.node.state.standing.term
             (length cell.now.parts.node.state.log)) }
+        ensures woken { self.new.round.woken
+            ≡ woken_by self.old.round.woken (answerer message.now.kind message.now.from) }
         ensures requests { account_of self.new ≡ account_of self.old }
     {
         match &message.kind {

@@ -1,4 +1,4 @@
-use Rattle.std.proofs.Common.{rules, ◌≡◌, Bool, true, false, refl, sym, ◌∙◌, subst}
+use Rattle.std.proofs.Common.{rules, length, Some, ◌≡◌, Bool, true, false, refl, sym, ◌∙◌, subst, inl, inr}
 use Rattle.raft_node.specs.Hosts.{hosted}
 use Rattle.raft_node.specs.Machine.{Machine}
 use Rattle.node_threads.specs.Work.{HasBeaten}
@@ -24,3 +24,17 @@ pub returns-then-not-has_news-clause-beaten : goal.returns-then-not-has_news-cla
 returns-then-not-has_news-clause-beaten g c =
     let none : c.has_news.result ≡ false = search rules in
     subst (λ (news : Bool). HasBeaten (machine g c.args.cell.now.parts.ether.setup) g.U.Upstream.tally news c.args.cell.now.parts c.args.cell.now.parts) (sym none ∙ c.has_news.ensures) refl
+
+pub returns-then-turn-clause-kept : goal.returns-then-turn-clause-kept
+returns-then-turn-clause-kept g c = λ news.
+    let is : c.state-state.result.now ≡ c.args.cell.now.parts.node.state = c.state-state.ensures.state in
+    let last : c.len.result ≡ length c.args.cell.now.parts.node.state.log = c.len.ensures.value ∙ (λ i. length (is i).log) in
+    inr (record { what = λ i. Some (record { term = (is i).standing.term; last = last i; commit = (is i).standing.commit }); behind = refl })
+
+pub returns-else-turn-clause-kept : goal.returns-else-turn-clause-kept
+returns-else-turn-clause-kept g c = λ news. inl (c.turn.ensures.failed (search rules))
+
+pub returns-then-not-has_news-clause-kept : goal.returns-then-not-has_news-clause-kept
+returns-then-not-has_news-clause-kept g c = λ news.
+    let none : c.has_news.result ≡ false = search rules in
+    absurd (cc (sym none ∙ c.has_news.ensures ∙ news))
