@@ -11,5 +11,6 @@ pub mod Ordered
 pub mod Over
 pub mod PasswordTexts
 pub mod Places
+pub mod Responded
 pub mod Sent
 pub mod Submitted

@@ -1,5 +1,5 @@
 -- What is read from a connection, and what waits to be written to it.
-use Rattle.std.specs.Prelude.{ℕ, ◌+◌, ◌-◌, nat_le, Bool, true, false, List, length, ◌++◌}
+use Rattle.std.specs.Prelude.{ℕ, ◌+◌, ◌-◌, nat_le, nat_lt, if◌then◌else◌, Bool, true, false, List, length, ◌++◌}
 use Rattle.bouncer_run.specs.declared.connection.TheConstants.{LONGEST_END, MOST_UNSENT}
 use Rattle.bouncer_run.specs.declared.connection.Got.{Got}
 use Rattle.bouncer_run.specs.declared.connection.Got.TheVariants.{Bytes, Nothing, End, Later}
@@ -23,6 +23,20 @@ is_ending (Ending since) = true
 abbrev pub gathered : Phase → List ℕ → List ℕ → List ℕ
 gathered Open waiting bytes = waiting ++ bytes
 gathered (Ending since) waiting bytes = waiting
+
+-- it is to be closed, as of this moment if it was not before
+abbrev pub ended : ℕ → Phase → Phase
+ended now Open = Ending now
+ended now (Ending since) = Ending since
+
+-- a byte was taken at this moment
+abbrev pub took : ℕ → Phase → Phase
+took now Open = Open
+took now (Ending since) = Ending now
+
+-- after a write, if this many bytes waited before it and after it
+abbrev pub phase_after : ℕ → ℕ → ℕ → Phase → Phase
+phase_after now before after phase = if nat_lt after before then took now phase else phase
 
 -- at most MOST_UNSENT bytes wait then
 abbrev pub may_wait : Phase → List ℕ → List ℕ → Bool

@@ -1,5 +1,6 @@
 -- What is read of a connection, and what goes to the driver.
-use Rattle.std.specs.Prelude.{◌≡◌, ◌⊎◌, ◌≤◌, ℕ, true, List, [], ◌∷◌, length, take, flat_map, Option}
+use Rattle.std.specs.Prelude.{◌≡◌, ◌⊎◌, ◌≤◌, ◌&&◌, ℕ, Bool, true, false, not, nat_eq, codes, List, [], ◌∷◌, length, take, flat_map, Option}
+use Rattle.std.specs.List.{starts_with}
 use Rattle.std.specs.Io.KnownBytes.{Consumes}
 use Rattle.driver.specs.Calls.{Does}
 use Rattle.driver.specs.Calls.Call.{Connected, End, Lose, Receive, ReceiveLine, Refuse}
@@ -32,11 +33,16 @@ pub record HasHeard {D : Type 0} (takes : List ℕ → D → D → Type 0) (befo
   pub read : Consumes before after (joined_pieces pieces)
   pub taken : AreTaken takes pieces old new
 
+-- bytes begin with PING, which asks for nothing that is kept
+abbrev pub is_ping : List ℕ → Bool
+is_ping bytes = starts_with nat_eq bytes (codes "PING")
+
 -- What a client sent goes to the driver as this client's. Instead it gets a notice if nothing new is
--- taken from it.
+-- taken from it and its bytes do not begin with PING.
 abbrev pub takes_of_client : Now → ℕ → List ℕ → Driver → Driver → Type 0
 takes_of_client now number bytes old new =
-    Does (Receive bytes now.ms now.at number) old new ⊎ ((is_refused old number ≡ true) × Does (Refuse number) old new)
+    (((is_refused old number && not (is_ping bytes)) ≡ false) × Does (Receive bytes now.ms now.at number) old new)
+    ⊎ (((is_refused old number && not (is_ping bytes)) ≡ true) × Does (Refuse number) old new)
 
 -- what the server sent goes to the driver as the server's
 abbrev pub takes_of_server : Now → List ℕ → Driver → Driver → Type 0

@@ -13,6 +13,7 @@ pub mod Limits
 pub mod Moving
 pub mod Opened
 pub mod Pasts
+pub mod Responses
 pub mod Sendings
 pub mod Settings
 pub mod Stopping

@@ -40,19 +40,32 @@ pub fn absent_in<R: System>(
     let mut absent = Vec::new(alloc);
     for index in 0..size.value() {
         let node = NodeId::new(index + 1);
-        let folder = folder_of(folders, node);
-        if let Err(error) = make(rt, folder, made) {
-            let one = Absent::of(node, String::from_str(alloc, folder)?, error)?;
-            absent.push(one).map_err(|_| RunFault::Memory)?;
-            continue;
-        }
-        let path = journal_path(alloc, folder, node)?;
-        if let Err(error) = is_openable(rt, path.as_str()) {
-            let one = Absent::of(node, path, error)?;
+        if let Some(one) = absent_at(rt, folder_of(folders, node), node, made)? {
             absent.push(one).map_err(|_| RunFault::Memory)?;
         }
     }
     Ok(absent)
+}
+
+/// A node whose folder or journal the system does not open, if it is one.
+fn absent_at<R: System>(
+    rt: &R,
+    folder: &str,
+    node: NodeId,
+    made: &mut Made,
+) -> Result<Option<Absent>, RunFault>
+    ensures { IfErr result (IsOrMemory RunFault.Store) }
+{
+    let alloc = rt.alloc();
+    if let Err(error) = make(rt, folder, made) {
+        let one = Absent::of(node, String::from_str(alloc, folder)?, error)?;
+        return Ok(Some(one));
+    }
+    let path = journal_path(alloc, folder, node)?;
+    match is_openable(rt, path.as_str()) {
+        Ok(()) => Ok(None),
+        Err(error) => Ok(Some(Absent::of(node, path, error)?)),
+    }
 }
 
 impl Absent {

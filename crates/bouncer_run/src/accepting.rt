@@ -91,7 +91,8 @@ impl Sockets {
     pub fn accept_again(&mut self, now: &Now, driver: &mut Driver) -> Result<(), LoopFault> {
         for index in 0..7u8 {
             let is_deaf = match self.listeners.get(index as usize) {
-                Some(listening) => listening.is_deaf,
+                // one that does not listen is tried by `follow`
+                Some(listening) => listening.is_deaf && listening.listener.is_some(),
                 None => false,
             };
             if is_deaf {
@@ -120,7 +121,8 @@ impl Sockets {
         }
     }
 
-    /// A client came to a node. It is turned away if there is no place, or if its node is down.
+    /// A client came to a node. It is turned away if there is no place, or if its node is down: then
+    /// no other client gives way.
     fn take_in(
         &mut self,
         now: &Now,
@@ -129,7 +131,8 @@ impl Sockets {
         stream: TcpStream,
         from: SocketAddr,
     ) -> Result<(), LoopFault> {
-        if self.clients.len() >= MOST_CLIENTS && !self.make_place(now, driver)? {
+        let needs_place = driver.takes_clients(node) && self.clients.len() >= MOST_CLIENTS;
+        if needs_place && !self.make_place(now, driver)? {
             self.tell_crowded(now, EdgeNews::Crowded(node, from))?;
             self.turn_away(now, stream, CROWDED);
             return Ok(());
@@ -137,7 +140,8 @@ impl Sockets {
         let Some(number) = driver.connect(now, node)? else {
             return self.refuse(now, driver, node, stream);
         };
-        if self.admit(number, node, stream, from).is_err() {
+        if let Err(error) = self.admit(number, node, stream, from) {
+            self.tell_crowded(now, EdgeNews::Deaf(node, error))?;
             driver.lose(now, number)?;
             return Ok(());
         }
@@ -145,7 +149,7 @@ impl Sockets {
         Ok(())
     }
 
-    /// That all places are taken is logged, a few times a minute.
+    /// That a client was not taken, or gave way, is logged, a few times a minute.
     fn tell_crowded(&mut self, now: &Now, news: EdgeNews) -> Result<(), LoopFault> {
         if self.crowding.take(now.ms) {
             self.tell(news)?;

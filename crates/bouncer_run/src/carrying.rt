@@ -1,6 +1,7 @@
 //! The driver's orders are carried out.
 ghost use Rattle.std.specs.Prelude.{◌≡◌, ◌∷◌, [], OnOk};
 ghost use Rattle.bouncer_run.specs.Deliveries.{AreDone};
+ghost use Rattle.bouncer_run.specs.Responses.{HearsAll, HearsOf, IsCarriedOut};
 ghost use Rattle.bouncer_run.specs.Sendings.{IsSent};
 ghost use Rattle.bouncer_run.specs.Submissions.{AreTold, note_in, notes_in};
 
@@ -47,6 +48,8 @@ fn carry_out_ordered<R: Net + Wait, N: Nodes, O: Operator>(
         (IsSent driver.old.orders.items sockets.old.server sockets.new.server) }
     ensures notes { OnOk result
         (AreTold N.has_told (notes_in driver.old.orders.items) nodes.old nodes.new) }
+    ensures heard { OnOk result
+        (IsCarriedOut now.now sockets.old sockets.new driver.old driver.new) }
 {
     let orders = driver.orders();
     let any = !orders.is_empty();
@@ -67,6 +70,8 @@ fn carry_out_each<R: Net + Wait, N: Nodes, O: Operator>(
     ensures clients { OnOk result (AreDone orders.items sockets.old sockets.new) }
     ensures server { OnOk result (IsSent orders.items sockets.old.server sockets.new.server) }
     ensures notes { OnOk result (AreTold N.has_told (notes_in orders.items) nodes.old nodes.new) }
+    ensures heard { OnOk result
+        (HearsAll now.now orders.items sockets.old sockets.new driver.old driver.new) }
 {
     for order in orders {
         carry_out(rt, now, driver, sockets, nodes, operator, order)?;
@@ -87,6 +92,8 @@ fn carry_out<R: Net + Wait, N: Nodes, O: Operator>(
     ensures clients { OnOk result (AreDone (order ∷ []) sockets.old sockets.new) }
     ensures server { OnOk result (IsSent (order ∷ []) sockets.old.server sockets.new.server) }
     ensures notes { OnOk result (AreTold N.has_told (note_in order) nodes.old nodes.new) }
+    ensures heard { OnOk result
+        (HearsOf now.now order sockets.old sockets.new driver.old driver.new) }
 {
     match order {
         Order::Submit(node, note) => submit(rt, nodes, node, note),

@@ -1,6 +1,7 @@
 //! A connection, with what is still to be written to it.
 ghost use Rattle.std.specs.Prelude.{◌≡◌, ◌&&◌, ◌==◌, [], not, false, length, IfOk, IsTrue};
-ghost use Rattle.bouncer_run.specs.Connections.{gathered, is_ending, is_late, is_later, may_wait};
+ghost use Rattle.bouncer_run.specs.Connections.{ended, gathered, is_ending, is_late, is_later};
+ghost use Rattle.bouncer_run.specs.Connections.{may_wait, phase_after, took};
 ghost use Rattle.bouncer_run.specs.Hearing.{HasGiven};
 ghost use Rattle.bouncer_run.specs.Moving.{Moves};
 
@@ -143,6 +144,8 @@ impl<S: Read + Write + Drop> Connection<S> {
     pub fn flush(&mut self, ms: u64) -> bool
         ensures moves { Moves self.old.unsent self.new.unsent
             (S.contents self.old.stream) (S.contents self.new.stream) }
+        ensures phase { self.new.phase ≡ phase_after ms
+            (length self.old.unsent) (length self.new.unsent) self.old.phase }
         ensures ending { is_ending self.new.phase ≡ is_ending self.old.phase }
     {
         let waited = self.unsent.len();
@@ -156,12 +159,11 @@ impl<S: Read + Write + Drop> Connection<S> {
 
     /// It is to be closed once all is written.
     pub fn end(&mut self, ms: u64)
+        ensures phase { self.new.phase ≡ ended ms self.old.phase }
         ensures ending { IsTrue (is_ending self.new.phase) }
         ensures rest { self.new ≡ record self.old { phase = self.new.phase } }
     {
-        if !self.is_ending() {
-            self.phase = Phase::Ending(ms);
-        }
+        self.phase = self.phase.ended(ms);
     }
 
     /// Whether it is to be closed.
@@ -190,9 +192,21 @@ impl<S: Read + Write + Drop> Connection<S> {
 }
 
 impl Phase {
+    /// It is to be closed, as of this moment if it was not before.
+    fn ended(self, ms: u64) -> Phase
+        ensures ended { result ≡ ended ms self }
+        ensures ending { IsTrue (is_ending result) }
+    {
+        match self {
+            Phase::Open => Phase::Ending(ms),
+            Phase::Ending(since) => Phase::Ending(since),
+        }
+    }
+
     /// A byte was taken at this moment.
     fn took(self, ms: u64) -> Phase
-        ensures { is_ending result ≡ is_ending self }
+        ensures taken { result ≡ took ms self }
+        ensures ending { is_ending result ≡ is_ending self }
     {
         match self {
             Phase::Open => Phase::Open,

@@ -1,6 +1,7 @@
 //! What the loop logs, and what it sends to clients.
-ghost use Rattle.std.specs.Prelude.{◌≡◌, []};
+ghost use Rattle.std.specs.Prelude.{◌≡◌, [], OnOk};
 ghost use Rattle.bouncer_run.specs.Deliveries.{AreDone};
+ghost use Rattle.bouncer_run.specs.Responses.{AreNotified, HearsNews, NotesIf, why_absent};
 
 use crate::edge_news::EdgeNews;
 use crate::event_loop::LoopFault;
@@ -23,6 +24,7 @@ pub fn tell_news<O: Operator>(
 ) -> Result<(), LoopFault>
     ensures clients { AreDone [] sockets.old sockets.new }
     ensures server { sockets.new.server ≡ sockets.old.server }
+    ensures heard { OnOk result (HearsNews news driver.old driver.new) }
 {
     if let News::NotJoined(node, number) = news {
         return tell_absent(now, driver, sockets.alloc, operator, node, number);
@@ -52,7 +54,9 @@ fn tell_absent<O: Operator>(
     operator: &mut O,
     node: NodeId,
     number: u64,
-) -> Result<(), LoopFault> {
+) -> Result<(), LoopFault>
+    ensures { OnOk result (NotesIf (why_absent number driver.old) driver.old driver.new) }
+{
     if let Some(text) = driver.why_not_joined(number)? {
         driver.notice(text.as_slice())?;
         let text = shown(alloc, text.as_slice())?;
@@ -72,7 +76,9 @@ fn tell_operator<O: Operator>(now: &Now, sockets: &Sockets, operator: &mut O, ne
 }
 
 /// Clients get a notice that the server is connected, or gone.
-fn tell_clients(alloc: Global, driver: &mut Driver, news: &News) -> Result<(), LoopFault> {
+fn tell_clients(alloc: Global, driver: &mut Driver, news: &News) -> Result<(), LoopFault>
+    ensures { OnOk result (AreNotified news.now driver.old driver.new) }
+{
     match news {
         News::Opened(_) => driver.notice(b"Connected to the server.")?,
         News::Closed(_, _) => tell_gone(alloc, driver)?,

@@ -1,6 +1,9 @@
 //! What the driver orders at the sockets.
 ghost use Rattle.std.specs.Prelude.{◌≡◌, [], false, None, Some, OnOk};
+ghost use Rattle.driver.specs.Calls.{Does};
+ghost use Rattle.driver.specs.Calls.Call.{Lose};
 ghost use Rattle.bouncer_run.specs.Deliveries.{AreOthersSame, HasWritten, guest_at};
+ghost use Rattle.bouncer_run.specs.Responses.{HearsEnd, HearsIfGone, HearsIfNone};
 ghost use Rattle.bouncer_run.specs.Sendings.{Awaits, HasSent};
 
 use crate::connection::ending_of;
@@ -25,6 +28,8 @@ impl Sockets {
             (guest_at self.old number) (guest_at self.new number)) }
         ensures others { AreOthersSame number self.old self.new }
         ensures server { self.new.server ≡ self.old.server }
+        ensures heard { OnOk result (HearsIfGone (Does (Lose now.now.ms now.now.at number))
+            (guest_at self.old number) (guest_at self.new number) driver.old driver.new) }
     {
         let Some(guest) = self.clients.get_mut(&number) else {
             return Ok(());
@@ -39,6 +44,8 @@ impl Sockets {
     pub fn reach(&mut self, net: &impl Net, now: &Now, driver: &mut Driver) -> Result<(), LoopFault>
         ensures clients { self.new.clients ≡ self.old.clients }
         ensures server { OnOk result (Awaits (Some []) self.new.server) }
+        ensures heard { OnOk result
+            (HearsIfNone (HearsEnd now.now) self.new.server driver.old driver.new) }
     {
         match self.connect(net) {
             Ok(()) => Ok(()),
@@ -50,6 +57,8 @@ impl Sockets {
     pub fn send(&mut self, now: &Now, driver: &mut Driver, bytes: &[u8]) -> Result<(), LoopFault>
         ensures clients { self.new.clients ≡ self.old.clients }
         ensures sent { OnOk result (HasSent bytes.now self.old.server self.new.server) }
+        ensures heard { OnOk result (HearsIfGone (HearsEnd now.now)
+            self.old.server self.new.server driver.old driver.new) }
     {
         let Some(connection) = &mut self.server else {
             return Ok(());

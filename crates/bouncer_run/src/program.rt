@@ -109,7 +109,7 @@ struct Started<R: System, U: Upstream> {
 }
 
 impl<R: System, U: Upstream + Send + 'static> Started<R, U> {
-    /// Opens the journals, starts the nodes and listens. What it makes is noted.
+    /// Opens the journals, listens, and starts the nodes. What it makes is noted.
     fn new<I: Read + Drop + Send + 'static, F: Fn(R, Global, NodeId, Inlet) -> U>(
         rt: &R,
         config: &Config,
@@ -135,12 +135,14 @@ impl<R: System, U: Upstream + Send + 'static> Started<R, U> {
         errors.note(&absent);
         let rate = rate_of(alloc, &opened, time_of_day(rt))?;
         let mut edge = Edge::new(rt, config)?;
+        // a node that starts saves its run, so what may be refused comes first
+        let driver = edge.open(rt, config, size, &absent)?;
         let stores = stores(rt, config, opened, &setup, &errors)?;
         let parts = parts(rt, &edge.inlets, stores, hands)?;
         let running = Running::start(rt, config, size, parts, &errors)?;
         let telling = Telling::over(*rt, config.log, errors, Growth::new(rate));
-        match edge.open(rt, config, size, &absent, &telling, input) {
-            Ok((driver, reader)) => Ok(Started {
+        match edge.watch(rt, input) {
+            Ok(reader) => Ok(Started {
                 edge,
                 running,
                 driver,
@@ -221,17 +223,15 @@ impl Edge {
         })
     }
 
-    /// Listens, except for the nodes that are absent, and reads the input. `Write` is returned at
-    /// once if the record could not be written at the end.
-    fn open<R: System, I: Read + Drop + Send + 'static>(
+    /// Listens, except for the nodes that are absent. `Write` is returned at once if the record
+    /// could not be written at the end.
+    fn open<R: System>(
         &mut self,
         rt: &R,
         config: &Config,
         size: GroupSize,
         absent: &[Absent],
-        telling: &Telling<R>,
-        input: Option<I>,
-    ) -> Result<(Driver, Option<JoinHandle<()>>), RunFault>
+    ) -> Result<Driver, RunFault>
         ensures { IfErr result (λ f. IsOrMemory RunFault.Socket f ⊎ (f ≡ RunFault.Write)) }
     {
         let alloc = rt.alloc();
@@ -239,15 +239,14 @@ impl Edge {
             .map_err(socket_fault)?
             .now(rt)
             .map_err(socket_fault)?;
-        warn(&now, config, telling);
-        listen_all(rt, config, &now, &mut self.sockets, telling)?;
+        let telling = Telling::new(*rt, config.log);
+        warn(&now, config, &telling);
+        listen_all(rt, config, &now, &mut self.sockets, &telling)?;
         for one in absent {
             self.sockets.begin_down(one.node);
         }
         try_record(rt, config)?;
-        let driver = Driver::new(alloc, settings_of(alloc, config, size)?, &now);
-        let reader = self.watch(rt, input)?;
-        Ok((driver, reader))
+        Ok(Driver::new(alloc, settings_of(alloc, config, size)?, &now))
     }
 
     /// The thread that reads the input, if there is one to be read.

@@ -58,8 +58,8 @@ impl Reasons {
         self.line.extend_from_slice(part)
     }
 
-    /// A line ends. It is to be logged if it says why a session is refused.
-    fn end(&mut self, news: &mut Vec<EdgeNews>) -> Result<(), AllocError> {
+    /// A line ends, or the connection does. It is to be logged if it says why a session is refused.
+    pub fn end(&mut self, news: &mut Vec<EdgeNews>) -> Result<(), AllocError> {
         if self.is_refusal() && self.told < MOST_TOLD {
             self.told += 1;
             let text = shown(self.alloc, self.line.as_slice())?;

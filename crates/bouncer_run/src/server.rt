@@ -46,7 +46,11 @@ impl Sockets {
         let stays = match reading {
             Reading::Done => takes,
             Reading::More => takes && self.watch_server(),
-            Reading::Ended(why) => return self.drop_server(now, driver, why),
+            Reading::Ended(why) => {
+                // its last line may have no end
+                self.reasons.end(&mut self.news)?;
+                return self.drop_server(now, driver, why);
+            }
             Reading::Later => {
                 self.queue.join(SERVER)?;
                 true

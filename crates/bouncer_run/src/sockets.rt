@@ -1,5 +1,5 @@
 //! All sockets.
-ghost use Rattle.std.specs.Prelude.{◌≡◌, [], Some, OnOk};
+ghost use Rattle.std.specs.Prelude.{◌≡◌, [], Some, OnOk, IsTrue, is_some};
 ghost use Rattle.bouncer_run.specs.Sendings.{Awaits};
 
 use crate::connection::Connection;
@@ -59,7 +59,7 @@ pub struct Sockets {
     pub queue: Queue,
     /// Connections that are closed, as far as the bouncer is concerned.
     pub leaving: Leaving,
-    /// How often it was logged that all places were taken.
+    /// How often it was logged that a client was not taken, or gave way.
     pub crowding: Ration,
     /// What is still to be logged.
     pub news: Vec<EdgeNews>,
@@ -144,6 +144,7 @@ impl Sockets {
     pub fn connect(&mut self, net: &impl Net) -> io::Result<()>
         ensures clients { self.new.clients ≡ self.old.clients }
         ensures server { OnOk result (Awaits (Some []) self.new.server) }
+        ensures made { OnOk result (IsTrue (is_some self.new.server)) }
     {
         let mut stream = TcpStream::connect(net, self.server_address)?;
         let _ = stream.set_nodelay(true);
